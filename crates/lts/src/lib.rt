@@ -1,0 +1,3 @@
+// Labelled transition systems: sets of states and actions, and the interface that every kind of system meets.
+pub mod sets;
+pub mod system;
