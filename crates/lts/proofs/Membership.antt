@@ -14,7 +14,7 @@ use borrow.Author.Tests.{eq-eqb, ne-eqb, eqb-true}
 use lib.Bits.{bitAnd, bitOr, or-zero-l, or-zero-r, and-zero-l, or-shr, or-mod, and-shr, and-mod, or-comm, and-comm}
 use Rattle.lts.specs.Sets.{In, has, Subset, setOf}
 
-half : (s k : ℕ) → s / 2 ^ suc k ≡ s / 2 / 2 ^ k
+pub half : (s k : ℕ) → s / 2 ^ suc k ≡ s / 2 / 2 ^ k
 half s k = ap (λ (j : ℕ). s / 2 ^ j) (sym (one-add k)) ∙ sym (shr-shr s 1 k)
 
 pub in-suc : (k s : ℕ) → In k (s / 2) → In (suc k) s

@@ -1,8 +1,9 @@
 -- A finite set of numbers is a number: q is a member when bit q is set. Assumes nothing.
 use mathlib.Core.Path.{_≡_}
-use mathlib.Core.List.{List, [], _∷_}
+use mathlib.Core.List.{List, [], _∷_, List·Memᴰ}
+use mathlib.Core.Logic.{_↔_}
 use mathlib.Core.Bool.{Bool, cond}
-use Prim.Native.Nat.{ℕ, zero, suc, _+_, _*_, _/_, _%_, _^_}
+use Prim.Native.Nat.{ℕ, zero, suc, _+_, _*_, _/_, _%_, _^_, _<_}
 use lib.Dec.{eqb, ltb}
 use lib.Bits.{bitOr}
 
@@ -38,3 +39,18 @@ membersFrom k (suc n) s = cond (has k s) (k ∷ membersFrom (suc k) n s) (member
 -- the members of a set of at most 64 bits, in rising order
 abbrev pub members : ℕ → List ℕ
 members s = membersFrom 0 64 s
+
+-- every number of the list is above x
+abbrev pub Above : ℕ → List ℕ → Type 0
+Above x [] = Unit {0}
+Above x (y ∷ ys) = (x < y) × Above x ys
+
+-- rising, and so without duplicates
+abbrev pub Ascending : List ℕ → Type 0
+Ascending [] = Unit {0}
+Ascending (x ∷ xs) = Above x xs × Ascending xs
+
+-- xs holds the members of s, each once, in rising order
+pub record Lists (s : ℕ) (xs : List ℕ) : Type 0 where
+  pub ascending : Ascending xs
+  pub exact : (q : ℕ) → List·Memᴰ q xs ↔ In q s

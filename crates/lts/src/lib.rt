@@ -1,3 +1,4 @@
 // Labelled transition systems: sets of states and actions, and the interface that every kind of system meets.
+pub mod members;
 pub mod sets;
 pub mod system;

@@ -3,7 +3,8 @@ ghost use mathlib.Core.Path.{_≡_};
 ghost use mathlib.Core.Bool.{Bool, not};
 ghost use Prim.Native.Nat.{ℕ, _+_, _^_, _<_};
 ghost use lib.Dec.{eqb};
-ghost use Rattle.lts.specs.Sets.{has, union as unionOf, inserted};
+ghost use Rattle.lts.specs.Sets.{has, union as unionOf, inserted, Lists, members as membersOf};
+use crate::members::Members;
 
 // A set of states 0 to 63; bit q stands for state q.
 #[derive(Clone, Copy, PartialEq, Eq, Debug)]
@@ -75,6 +76,14 @@ impl StateSet {
         }
         self.bits != before
     }
+
+    // The members, in rising order.
+    pub fn members(self) -> Members
+        ensures value { λ r. ⌜ r .rest ≡ self .bits ⌝ }
+        ensures listed { λ r. ⌜ Lists (self .bits) (membersOf (r .rest)) ⌝ }
+    {
+        Members::of(self.bits)
+    }
 }
 
 impl ActionSet {
@@ -127,5 +136,13 @@ impl ActionSet {
             self.bits |= 1 << action;
         }
         self.bits != before
+    }
+
+    // The members, in rising order.
+    pub fn members(self) -> Members
+        ensures value { λ r. ⌜ r .rest ≡ self .bits ⌝ }
+        ensures listed { λ r. ⌜ Lists (self .bits) (membersOf (r .rest)) ⌝ }
+    {
+        Members::of(u64::from(self.bits))
     }
 }

@@ -1,0 +1,142 @@
+-- The members of a set, taken off from the lowest. Assumes nothing.
+use mathlib.Core.Path.{_≡_, refl, sym, ap, subst, _∙_}
+use mathlib.Core.List.{List, [], _∷_, map, List·Memᴰ, List·Memᴰ·head, List·Memᴰ·tail, List·Memᴰ·not-nil, List·Memᴰ·cases-cons}
+use mathlib.Core.Bool.{Bool, true, false, cond}
+use mathlib.Core.Logic.{_⊎_, inl, inr, _↔_}
+use Prim.Native.Nat.{ℕ, zero, suc, _+_, _-_, _*_, _/_, _%_, _^_, _≤_, _<_, min, max, zero-le}
+use native.Mathlib.Omega.{arith}
+use native.Mathlib.Nat.{pow-suc, div-one, zero-div}
+use lib.Bits.{bitAnd, and-step, and-self, and-le-r}
+use lib.Count.{trailingZeros, under}
+use lib.Dec.{eqb}
+use Rattle.std.proofs.shelf.Tests.{cases-eq}
+use Rattle.lts.specs.Sets.{In, has, membersFrom, members, Above, Ascending, Lists}
+use Rattle.lts.proofs.Membership.{half, has-in, in-has, members-below}
+
+odd : (n s : ℕ) → s % 2 ≡ 1 → trailingZeros (suc n) s ≡ 0
+unfolding trailingZeros
+odd n s h = rw h
+
+even : (n s : ℕ) → s % 2 ≡ 0 → trailingZeros (suc n) s ≡ suc (trailingZeros n (s / 2))
+unfolding trailingZeros
+even n s h = rw h
+
+has-suc : (q s : ℕ) → has (suc q) s ≡ has q (s / 2)
+has-suc q s = ap (λ (x : ℕ). eqb (x % 2) 1) (half s q)
+
+has-zero : (s : ℕ) → has 0 s ≡ eqb (s % 2) 1
+has-zero s = ap (λ (x : ℕ). eqb (x % 2) 1) (div-one s)
+
+map-cond : (b : Bool) (x y : List ℕ) → map suc (cond b x y) ≡ cond b (map suc x) (map suc y)
+map-cond true x y = refl
+map-cond false x y = refl
+
+-- one bit further up
+shifted : (k n s : ℕ) → membersFrom (suc k) n s ≡ map suc (membersFrom k n (s / 2))
+unfolding membersFrom
+shifted k zero s = refl
+shifted k (suc n) s =
+    rw (has-suc k s, shifted (suc k) n s)
+    (sym (map-cond (has k (s / 2)) (k ∷ membersFrom (suc k) n (s / 2)) (membersFrom (suc k) n (s / 2))))
+
+-- the members of a set, by its lowest bit and the rest
+from-zero : (n s : ℕ) → membersFrom 0 (suc n) s ≡ cond (eqb (s % 2) 1) (0 ∷ map suc (membersFrom 0 n (s / 2))) (map suc (membersFrom 0 n (s / 2)))
+unfolding membersFrom
+from-zero n s = rw (has-zero s, shifted 0 n s)
+
+pub members-none : (k n : ℕ) → membersFrom k n 0 ≡ []
+unfolding membersFrom
+members-none k zero = refl
+members-none k (suc n) = rw (zero-div (2 ^ k)) (members-none (suc k) n)
+
+lowest-odd : (n s : ℕ) → s % 2 ≡ 1 → membersFrom 0 (suc n) s ≡ 0 ∷ membersFrom 0 (suc n) (bitAnd s (s - 1))
+lowest-odd n s y =
+    let d : (s - 1) / 2 ≡ s / 2 = omega arith in
+    let st = rw (d, and-self (s / 2)) at (and-step s (s - 1)) in
+    let o : bitAnd s (s - 1) % 2 ≡ 0 = omega arith in
+    let v : bitAnd s (s - 1) / 2 ≡ s / 2 = omega arith in
+    rw (from-zero n s, from-zero n (bitAnd s (s - 1)), y, o, v)
+
+lowest-even : (n s t : ℕ) → 0 < s → s % 2 ≡ 0 → membersFrom 0 n (s / 2) ≡ t ∷ membersFrom 0 n (bitAnd (s / 2) (s / 2 - 1))
+    → membersFrom 0 (suc n) s ≡ suc t ∷ membersFrom 0 (suc n) (bitAnd s (s - 1))
+lowest-even n s t h e r =
+    let d : (s - 1) / 2 ≡ s / 2 - 1 = omega arith in
+    let st = rw (d, e) at (and-step s (s - 1)) in
+    let o : bitAnd s (s - 1) % 2 ≡ 0 = omega arith in
+    let v : bitAnd s (s - 1) / 2 ≡ bitAnd (s / 2) (s / 2 - 1) = omega arith in
+    rw (from-zero n s, from-zero n (bitAnd s (s - 1)), e, o, v, r)
+
+-- the lowest member first, then those of what is left when its bit is cleared
+pub members-lowest : (n s : ℕ) → 0 < s → s < 2 ^ n → membersFrom 0 n s ≡ trailingZeros n s ∷ membersFrom 0 n (bitAnd s (s - 1))
+members-lowest zero s h l = absurd (omega arith)
+members-lowest (suc n) s h l =
+    let p = pow-suc 2 n in
+    elim (cases-eq (s % 2) 1) [
+      | inl y ↦ rw (odd n s y) (lowest-odd n s y)
+      | inr y ↦
+          let e : s % 2 ≡ 0 = omega arith in
+          let a : 0 < s / 2 = omega arith in
+          let b : s / 2 < 2 ^ n = omega arith in
+          rw (even n s e) (lowest-even n s (trailingZeros n (s / 2)) h e (members-lowest n (s / 2) a b))
+    ]
+
+above-zero : (xs : List ℕ) → Above 0 (map suc xs)
+above-zero [] = tt
+above-zero (x ∷ xs) = (omega arith, above-zero xs)
+
+above-suc : (x : ℕ) (xs : List ℕ) → Above x xs → Above (suc x) (map suc xs)
+above-suc x [] h = tt
+above-suc x (y ∷ ys) h = (omega (arith, h .0), above-suc x ys (h .1))
+
+ascending-suc : (xs : List ℕ) → Ascending xs → Ascending (map suc xs)
+ascending-suc [] h = tt
+ascending-suc (x ∷ xs) h = (above-suc x xs (h .0), ascending-suc xs (h .1))
+
+ascending-cond : (b : Bool) (xs : List ℕ) → Ascending xs → Ascending (cond b (0 ∷ map suc xs) (map suc xs))
+ascending-cond true xs h = (above-zero xs, ascending-suc xs h)
+ascending-cond false xs h = ascending-suc xs h
+
+pub members-ascending : (n s : ℕ) → Ascending (membersFrom 0 n s)
+unfolding membersFrom
+members-ascending zero s = tt
+members-ascending (suc n) s = rw (from-zero n s) (ascending-cond (eqb (s % 2) 1) (membersFrom 0 n (s / 2)) (members-ascending n (s / 2)))
+
+-- an element of a list that begins with k if b
+in-cond : (b : Bool) (k q : ℕ) (xs : List ℕ) → List·Memᴰ q (cond b (k ∷ xs) xs) → ((b ≡ true) × (q ≡ k)) ⊎ List·Memᴰ q xs
+in-cond true k q xs m = elim (List·Memᴰ·cases-cons m) [ inl e ↦ inl (refl, e) | inr m′ ↦ inr m′ ]
+in-cond false k q xs m = inr m
+
+cond-head : (b : Bool) (k : ℕ) (xs : List ℕ) → b ≡ true → List·Memᴰ k (cond b (k ∷ xs) xs)
+cond-head b k xs e = rw e (List·Memᴰ·head refl)
+
+cond-tail : (b : Bool) (k q : ℕ) (xs : List ℕ) → List·Memᴰ q xs → List·Memᴰ q (cond b (k ∷ xs) xs)
+cond-tail true k q xs m = List·Memᴰ·tail m
+cond-tail false k q xs m = m
+
+listed-in : (n k s q : ℕ) → List·Memᴰ q (membersFrom k n s) → In q s
+unfolding membersFrom
+listed-in zero k s q m = absurd (List·Memᴰ·not-nil m)
+listed-in (suc n) k s q m =
+    elim (in-cond (has k s) k q (membersFrom (suc k) n s) m) [
+      | inl e ↦ subst (λ (x : ℕ). In x s) (sym (e .1)) (has-in k s (e .0))
+      | inr m′ ↦ listed-in n (suc k) s q m′
+    ]
+
+in-listed : (n k s q : ℕ) → k ≤ q → q < k + n → In q s → List·Memᴰ q (membersFrom k n s)
+unfolding membersFrom
+in-listed zero k s q h l i = absurd (omega arith)
+in-listed (suc n) k s q h l i =
+    elim (cases-eq q k) [
+      | inl e ↦ subst (λ (x : ℕ). List·Memᴰ x (membersFrom k (suc n) s)) (sym e) (cond-head (has k s) k (membersFrom (suc k) n s) (in-has k s (subst (λ (x : ℕ). In x s) e i)))
+      | inr d ↦ cond-tail (has k s) k q (membersFrom (suc k) n s) (in-listed n (suc k) s q (omega arith) (omega arith) i)
+    ]
+
+lists : (n s : ℕ) → s < 2 ^ n → Lists s (membersFrom 0 n s)
+lists n s h = record {
+  ascending = members-ascending n s;
+  exact = λ q. (listed-in n 0 s q, λ i. in-listed n 0 s q zero-le (omega (arith, members-below n s q h i)) i);
+}
+
+-- the same, of what is left at first
+pub lists-of : (r s : ℕ) → r ≡ s → s < 2 ^ 64 → Lists s (members r)
+lists-of r s e h = subst (λ (x : ℕ). Lists s (members x)) (sym e) (lists 64 s h)
