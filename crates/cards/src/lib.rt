@@ -2,4 +2,6 @@
 pub mod faults;
 pub mod lines;
 mod reading;
+mod tables;
 mod words;
+pub mod written_card;
