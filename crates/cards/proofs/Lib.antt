@@ -1,2 +1,5 @@
 pub mod Checking
 pub mod Tabled
+pub mod Parts
+pub mod Accepted
+pub mod Sorted
