@@ -27,7 +27,7 @@ use Rattle.cards.specs.Reading.{within, counted, judged, moved, onward, step, 
 use Rattle.cards.proofs.Parts.{PartFits, end-fits, decode-encode, decode-sound}
 
 -- true is not false, and what is Ok is no Err
-clash : {A : Type 0} {x : A} {e : WordFault} → _≡_ {A = Result A WordFault} (Err e) (Ok x) → ⊥
+pub clash : {A : Type 0} {x : A} {e : WordFault} → _≡_ {A = Result A WordFault} (Err e) (Ok x) → ⊥
 clash p = let z : _≡_ {A = ℕ} 0 1 = cc in omega arith
 
 -- good parts after a word b, where k lines are to come

@@ -3,3 +3,5 @@ pub mod Tabled
 pub mod Parts
 pub mod Accepted
 pub mod Sorted
+pub mod Passing
+pub mod RoundTrip

@@ -35,7 +35,7 @@ passingOf (Line l ∷ xs) = passingOf xs
 passingOf (Passing q ∷ xs) = q ∷ passingOf xs
 passingOf (End ∷ xs) = passingOf xs
 
-rising-weaker : (b c : ℕ) (xs : List ℕ) → b < c → rising c xs ≡ true → rising b xs ≡ true
+pub rising-weaker : (b c : ℕ) (xs : List ℕ) → b < c → rising c xs ≡ true → rising b xs ≡ true
 unfolding rising
 rising-weaker b c [] h e = refl
 rising-weaker b c (x ∷ xs) h e =

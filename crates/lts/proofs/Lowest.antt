@@ -1,5 +1,5 @@
 -- The members of a set, taken off from the lowest. Assumes nothing.
-use mathlib.Core.Path.{_≡_, refl, sym, ap, subst, _∙_}
+use mathlib.Core.Path.{_≡_, refl, sym, ap, ap₂, subst, _∙_}
 use mathlib.Core.List.{List, [], _∷_, map, List·Memᴰ, List·Memᴰ·head, List·Memᴰ·tail, List·Memᴰ·not-nil, List·Memᴰ·cases-cons}
 use mathlib.Core.Bool.{Bool, true, false, cond}
 use mathlib.Core.Logic.{_⊎_, inl, inr, _↔_}
@@ -131,7 +131,7 @@ in-listed (suc n) k s q h l i =
       | inr d ↦ cond-tail (has k s) k q (membersFrom (suc k) n s) (in-listed n (suc k) s q (omega arith) (omega arith) i)
     ]
 
-lists : (n s : ℕ) → s < 2 ^ n → Lists s (membersFrom 0 n s)
+pub lists : (n s : ℕ) → s < 2 ^ n → Lists s (membersFrom 0 n s)
 lists n s h = record {
   ascending = members-ascending n s;
   exact = λ q. (listed-in n 0 s q, λ i. in-listed n 0 s q zero-le (omega (arith, members-below n s q h i)) i);
@@ -140,3 +140,34 @@ lists n s h = record {
 -- the same, of what is left at first
 pub lists-of : (r s : ℕ) → r ≡ s → s < 2 ^ 64 → Lists s (members r)
 lists-of r s e h = subst (λ (x : ℕ). Lists s (members x)) (sym e) (lists 64 s h)
+
+above-all : (x q : ℕ) (xs : List ℕ) → Above x xs → List·Memᴰ q xs → x < q
+above-all x q [] h m = absurd (List·Memᴰ·not-nil m)
+above-all x q (y ∷ ys) h m =
+    elim (List·Memᴰ·cases-cons m) [ inl e ↦ omega (arith, h .0) | inr m′ ↦ above-all x q ys (h .1) m′ ]
+
+-- what is in a list after its first element, in another that begins alike
+rest-in : (x y q : ℕ) (xs ys : List ℕ) → x ≡ y → Above x xs → List·Memᴰ q xs → List·Memᴰ q (y ∷ ys) → List·Memᴰ q ys
+rest-in x y q xs ys e a m n = elim (List·Memᴰ·cases-cons n) [ inl f ↦ absurd (omega (arith, above-all x q xs a m)) | inr n′ ↦ n′ ]
+
+same-heads : (x y : ℕ) (xs ys : List ℕ) → Above x xs → Above y ys → List·Memᴰ x (y ∷ ys) → List·Memᴰ y (x ∷ xs) → x ≡ y
+same-heads x y xs ys a b m n =
+    elim (List·Memᴰ·cases-cons m) [
+      | inl e ↦ e
+      | inr m′ ↦ elim (List·Memᴰ·cases-cons n) [ inl e ↦ sym e | inr n′ ↦ absurd (omega (arith, above-all y x ys b m′, above-all x y xs a n′)) ]
+    ]
+
+-- rising lists with the same elements are equal
+pub ascending-unique : (xs ys : List ℕ) → Ascending xs → Ascending ys → ((q : ℕ) → List·Memᴰ q xs → List·Memᴰ q ys) → ((q : ℕ) → List·Memᴰ q ys → List·Memᴰ q xs) → xs ≡ ys
+ascending-unique [] [] a b to fro = refl
+ascending-unique [] (y ∷ ys) a b to fro = absurd (List·Memᴰ·not-nil (fro y (List·Memᴰ·head refl)))
+ascending-unique (x ∷ xs) [] a b to fro = absurd (List·Memᴰ·not-nil (to x (List·Memᴰ·head refl)))
+ascending-unique (x ∷ xs) (y ∷ ys) a b to fro =
+    let e = same-heads x y xs ys (a .0) (b .0) (to x (List·Memᴰ·head refl)) (fro y (List·Memᴰ·head refl)) in
+    ap₂ (λ (z : ℕ) (zs : List ℕ). z ∷ zs) e
+    (ascending-unique xs ys (a .1) (b .1) (λ q m. rest-in x y q xs ys e (a .0) m (to q (List·Memᴰ·tail m))) (λ q m. rest-in y x q ys xs (sym e) (b .0) m (fro q (List·Memᴰ·tail m))))
+
+-- so the members of a set are listed in one way
+pub lists-unique : (s : ℕ) (xs ys : List ℕ) → Lists s xs → Lists s ys → xs ≡ ys
+lists-unique s xs ys l m =
+    ascending-unique xs ys (l .ascending) (m .ascending) (λ q h. m .exact q .1 (l .exact q .0 h)) (λ q h. l .exact q .1 (m .exact q .0 h))
