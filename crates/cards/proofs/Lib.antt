@@ -5,3 +5,4 @@ pub mod Accepted
 pub mod Sorted
 pub mod Passing
 pub mod RoundTrip
+pub mod Collected
