@@ -6,3 +6,5 @@ pub mod Sorted
 pub mod Passing
 pub mod RoundTrip
 pub mod Collected
+pub mod Meant
+pub mod Named

@@ -229,7 +229,7 @@ module _ (role : Role) (n : ℕ) (small : n ≤ 64) where
             (good-lines (lineWord l) ls xs (a .1) (s .1) (line-low l fr to (i .label)) g),
       )
 
-line-high : (f : ℕ) (x : Label) (t : ℕ) → 2 * 2 ^ 28 ≤ lineWord (record { from = f; label = x; to = t })
+pub line-high : (f : ℕ) (x : Label) (t : ℕ) → 2 * 2 ^ 28 ≤ lineWord (record { from = f; label = x; to = t })
 line-high f (Action a) t = omega arith
 line-high f Silent t = omega arith
 
@@ -277,7 +277,7 @@ all-below n [] f = tt
 all-below n (q ∷ qs) f = (f q (List·Memᴰ·head refl), all-below n qs (λ p m. f p (List·Memᴰ·tail m)))
 
 module _ (role : Role) (c : Contents) (v : Valid role c) where
-  listed : Lists (c .passing) (members (c .passing))
+  pub listed : Lists (c .passing) (members (c .passing))
   listed = lists 64 (c .passing) (let p : 2 ^ c .states ≤ 2 ^ 64 = pow-mono (v .most) in omega (arith, v .passing))
 
   below : Below (c .states) (members (c .passing))

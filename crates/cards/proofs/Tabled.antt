@@ -8,11 +8,11 @@ use native.Mathlib.Omega.{arith}
 use native.Mathlib.Nat.{not-suc-le-zero, le-of-suc-le-suc}
 use lib.Bits.{bitOr, or-zero-l, or-zero-r}
 use lib.Dec.{eqb, ltb}
-use lib.ListN.{length, getD, set, take}
+use lib.ListN.{length, getD, set, take, replicate, getD-replicate, length-replicate}
 use borrow.Author.Tests.{ltb-true, eq-eqb, ne-eqb, lt-ltb}
 use Rattle.std.proofs.shelf.Bits.{div-mul-add, mod-mul-add}
-use Rattle.std.proofs.shelf.Lists.{take-more, getD-set-same, getD-set-other, getD-read}
-use Rattle.std.proofs.shelf.Tests.{cases-eq}
+use Rattle.std.proofs.shelf.Lists.{take-more, getD-set-same, getD-set-other, getD-read, getD-past}
+use Rattle.std.proofs.shelf.Tests.{cases-eq, cases-lt}
 use Rattle.lts.specs.declared.sets.StateSet.{StateSet}
 use Rattle.lts.specs.Sets.{inserted}
 use Rattle.lts.proofs.Membership.{or-assoc}
@@ -120,3 +120,21 @@ tabled-next ls k table cell old p to sound h room pe te oe at inv i =
     at ∙ ap (λ (t : ℕ). inserted 64 t (old .bits)) te ∙ ap (λ (s : StateSet). inserted 64 (l .to) (s .bits)) read in
     subst (λ (q : ℕ). getD (set table q cell) i noStates .bits ≡ targets (take (k + 1) ls) (i / 33) (i % 33)) (sym pe)
     (tabled-more ls k l table cell (fits-at 64 ls k noLine sound h) (subst (λ (q : ℕ). q < length table) pe room) (take-more ls k noLine h) at′ inv i)
+
+-- a table of empty sets is that of no lines
+pub tabled-none : (n : ℕ) (x : StateSet) (table : List StateSet) (ls : List Line) → table ≡ replicate n x → x .bits ≡ 0 → ls ≡ []
+    → (i : ℕ) → getD table i noStates .bits ≡ targets ls (i / 33) (i % 33)
+unfolding targets
+tabled-none n x table ls e z none i =
+    elim (cases-lt i n) [
+      inl h ↦ rw (e, none, getD-replicate n i x noStates h) z
+    | inr h ↦ rw (e, none, getD-past (replicate n x) i noStates (omega (arith, length-replicate n x))) ]
+
+-- what fits fewer states fits more
+pub linesFit-wider : (n m : ℕ) (ls : List Line) → n ≤ m → linesFit n ls ≡ true → linesFit m ls ≡ true
+unfolding linesFit
+linesFit-wider n m [] h e = refl
+linesFit-wider n m (l ∷ ls) h e =
+    let a = both (lineFits n l) (linesFit n ls) e in
+    let f = fits n l (a .0) in
+    rw (lt-ltb (l .from) m (omega (arith, f .from-below)), lt-ltb (l .to) m (omega (arith, f .to-below)), f .label) (linesFit-wider n m ls h (a .1))

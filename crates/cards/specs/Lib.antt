@@ -3,3 +3,5 @@ pub mod Words
 pub mod Lines
 pub mod Reading
 pub mod Contents
+pub mod Meaning
+pub mod Cards

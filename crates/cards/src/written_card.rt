@@ -14,10 +14,10 @@ use lts::sets::StateSet;
 // `table` has the sets of states that the lines lead to, by state and label, so that a question is answered at once.
 #[derive(Drop)]
 pub struct WrittenCard {
-    states: usize,
-    start: usize,
-    lines: Vec<Line>,
-    table: Vec<StateSet>,
+    pub(crate) states: usize,
+    pub(crate) start: usize,
+    pub(crate) lines: Vec<Line>,
+    pub(crate) table: Vec<StateSet>,
     ghost sized: { (1 ≤ states) × (states ≤ 64) × (start < states) },
     ghost sound: { linesFit states (vec-items lines) ≡ true },
     ghost ordered: { rising 0 (map lineWord (vec-items lines)) ≡ true },

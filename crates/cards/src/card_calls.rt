@@ -1,0 +1,51 @@
+// Making, reading and asking written cards.
+ghost use mathlib.Core.Path.{_≡_};
+ghost use mathlib.Core.List.{[]};
+ghost use Prim.Native.Nat.{ℕ};
+ghost use Rattle.std.specs.Of.Vec.{vec-items};
+ghost use Rattle.std.specs.Results.{Cases};
+ghost use Rattle.std.specs.Vec.{made};
+ghost use Rattle.std.specs.declared.result.Result.the-variants.{Ok, Err};
+ghost use Rattle.cards.specs.declared.lines.Role.the-variants.{Card};
+ghost use Rattle.cards.specs.Cards.{contents, contentsWith, system, told, after};
+ghost use Rattle.cards.specs.Contents.{readWords, written};
+ghost use Rattle.cards.specs.Meaning.{Says};
+use crate::collecting::collect;
+use crate::faults::WordFault;
+use crate::lines::*;
+use crate::reading::check;
+use crate::tables::fill_table;
+use crate::written_card::WrittenCard;
+use lts::sets::StateSet;
+use lts::system::Lts;
+use std::alloc::AllocError;
+use std::alloc::Global;
+
+impl WrittenCard {
+    // A blank card: one state and no lines. All its memory is set aside here.
+    pub fn new(heap: Global) -> Result<WrittenCard, AllocError>
+        ensures { λ r. ⌜ made r (λ c. contents c ≡ record { states = 1; start = 0; lines = []; passing = 0 }) ⌝ }
+    {
+        let lines = Vec::with_capacity(heap, 256)?;
+        let table = vec![in heap; StateSet::empty(); 2112]?;
+        Ok(WrittenCard {
+            states: 1,
+            start: 0,
+            lines,
+            table,
+        })
+    }
+
+    // Fills the card from the words of a card or a test, and returns the passing states that they name.
+    pub(crate) fn read_as(&mut self, role: Role, words: &[u32]) -> Result<StateSet, WordFault>
+        ensures taken { λ r. ⌜ Cases r (λ p. readWords role (now (words .entry)) ≡ Ok (contentsWith (p .bits) (now (self .exit)))) (λ f. readWords role (now (words .entry)) ≡ Err f) ⌝ }
+        ensures kept { λ r. ⌜ Cases r (λ _. Unit {0}) (λ _. now (self .exit) ≡ now (self .entry)) ⌝ }
+    {
+        let head = check(role, words)?;
+        let passing = collect(&mut self.lines, words);
+        fill_table(&mut self.table, &self.lines);
+        self.states = head.states;
+        self.start = head.start;
+        Ok(passing)
+    }
+}
