@@ -8,3 +8,4 @@ pub mod RoundTrip
 pub mod Collected
 pub mod Meant
 pub mod Named
+pub mod Laid

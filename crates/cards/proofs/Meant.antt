@@ -30,7 +30,7 @@ targets-below n (l ∷ ls) p k e =
     (chosen-lt (eqb (l .from) p && eqb (column (l .label)) k) (2 ^ l .to) (2 ^ n) (pow-below (l .to) n (f .to-below)) (pow-pos n))
     (targets-below n ls p k (a .1))
 
-targets-outside : (n : ℕ) (ls : List Line) (p k : ℕ) → linesFit n ls ≡ true → n ≤ p → targets ls p k ≡ 0
+pub targets-outside : (n : ℕ) (ls : List Line) (p k : ℕ) → linesFit n ls ≡ true → n ≤ p → targets ls p k ≡ 0
 unfolding targets linesFit
 targets-outside n [] p k e h = refl
 targets-outside n (l ∷ ls) p k e h =
@@ -38,7 +38,7 @@ targets-outside n (l ∷ ls) p k e h =
     let f = fits n l (a .0) in
     rw (ne-eqb (l .from) p (omega (arith, f .from-below)), targets-outside n ls p k (a .1) h) (or-zero-l 0)
 
-cond-zero : (b : Bool) (x : ℕ) → x ≡ 0 → cond b x 0 ≡ 0
+pub cond-zero : (b : Bool) (x : ℕ) → x ≡ 0 → cond b x 0 ≡ 0
 cond-zero true x e = e
 cond-zero false x e = refl
 

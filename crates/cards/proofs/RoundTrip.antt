@@ -348,3 +348,39 @@ module _ (role : Role) (c : Contents) (v : Valid role c) where
   read-written =
       ap (held (written c)) checked
       ∙ ap₂ (λ (ls : List LineT) (p : ℕ). Ok (record { states = c .states; start = c .start; lines = ls; passing = p })) lines-back (ap (withAll 0) passing-back ∙ set-back)
+
+read-head : (role : Role) (ws : List ℕ) (c : Contents) → readWords role ws ≡ Ok c → (h : Head) × (check role ws ≡ Ok h) × (contentsOf ws h ≡ c)
+unfolding readWords
+read-head role ws c e = by (check role ws) refl e
+  where
+    by : (r : Result Head WordFault) → check role ws ≡ r → held ws r ≡ Ok c → (h : Head) × (check role ws ≡ Ok h) × (contentsOf ws h ≡ c)
+    by (Ok h) p q = (h, p, let r : contentsOf ws h ≡ c = cc in r)
+    by (Err f) p q = absurd (clash q)
+
+-- writing what was read gives the words back
+pub read-back : (role : Role) (ws : List ℕ) (c : Contents) → readWords role ws ≡ Ok c → written c ≡ ws
+read-back role ws c e =
+    let r = read-head role ws c e in
+    ap written (sym (r .2)) ∙ written-read role ws (r .0) (r .1)
+
+allowed-in : (role : Role) (ws : List ℕ) (h : Head) → check role ws ≡ Ok h → isTest role ≡ false → withAll 0 (passingIn ws) ≡ 0
+allowed-in Card ws h e t = card-none ws h e
+allowed-in Test ws h e t = absurd (let z : _≡_ {A = ℕ} 0 1 = cc in omega arith)
+
+-- what is read is valid
+pub read-valid : (role : Role) (ws : List ℕ) (c : Contents) → readWords role ws ≡ Ok c → Valid role c
+read-valid role ws c e =
+    let r = read-head role ws c e in
+    let h = r .0 in
+    let s = taken-sized role ws h (r .1) in
+    let v : Valid role (contentsOf ws h) = record {
+      some = s .some;
+      most = s .most;
+      starts = s .starts;
+      fit = taken-fit role ws h (r .1);
+      ordered = taken-rising role ws h (r .1);
+      few = omega (arith, taken-counted role ws h (r .1), s .few);
+      passing = taken-passing role ws h (r .1);
+      allowed = allowed-in role ws h (r .1);
+    } in
+    subst (Valid role) (r .2) v

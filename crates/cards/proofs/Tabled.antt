@@ -127,8 +127,9 @@ pub tabled-none : (n : ℕ) (x : StateSet) (table : List StateSet) (ls : List Li
 unfolding targets
 tabled-none n x table ls e z none i =
     elim (cases-lt i n) [
-      inl h ↦ rw (e, none, getD-replicate n i x noStates h) z
-    | inr h ↦ rw (e, none, getD-past (replicate n x) i noStates (omega (arith, length-replicate n x))) ]
+      | inl h ↦ rw (e, none, getD-replicate n i x noStates h) z
+      | inr h ↦ rw (e, none, getD-past (replicate n x) i noStates (omega (arith, length-replicate n x)))
+    ]
 
 -- what fits fewer states fits more
 pub linesFit-wider : (n m : ℕ) (ls : List Line) → n ≤ m → linesFit n ls ≡ true → linesFit m ls ≡ true
@@ -138,3 +139,10 @@ linesFit-wider n m (l ∷ ls) h e =
     let a = both (lineFits n l) (linesFit n ls) e in
     let f = fits n l (a .0) in
     rw (lt-ltb (l .from) m (omega (arith, f .from-below)), lt-ltb (l .to) m (omega (arith, f .to-below)), f .label) (linesFit-wider n m ls h (a .1))
+
+-- a question is answered out of the table
+pub asked : (table : List StateSet) (ls : List Line) (p k : ℕ) (r : StateSet) → length table ≡ 2112 → p < 64 → k < 33
+    → ((i : ℕ) → getD table i noStates .bits ≡ targets ls (i / 33) (i % 33)) → r ≡ getD table (p * 33 + k) r → r .bits ≡ targets ls p k
+asked table ls p k r wide hp hk tabled e =
+    ap (λ (s : StateSet). s .bits) (getD-read table (p * 33 + k) r (omega arith) e noStates) ∙ tabled (p * 33 + k)
+    ∙ (rw (div-mul-add p 33 k hk, mod-mul-add p 33 k hk))

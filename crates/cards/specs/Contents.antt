@@ -1,10 +1,13 @@
 -- What a card or a test file holds, and its words. Assumes nothing.
-use Prim.Native.Nat.{ℕ}
+use Prim.Native.Nat.{ℕ, _+_}
+use mathlib.Core.Bool.{cond}
+use lib.Dec.{leb}
 use mathlib.Core.List.{List, [], _∷_, _++_, map}
-use lib.ListN.{length}
+use lib.ListN.{length, take, drop}
 use Rattle.std.specs.declared.result.Result.{Result}
 use Rattle.std.specs.declared.result.Result.the-variants.{Ok, Err}
 use Rattle.lts.specs.Sets.{inserted, members}
+use Rattle.cards.specs.declared.faults.ShortBuffer.{ShortBuffer}
 use Rattle.cards.specs.declared.faults.WordFault.{WordFault}
 use Rattle.cards.specs.declared.lines.Head.{Head}
 use Rattle.cards.specs.declared.lines.Line.{Line}
@@ -40,3 +43,14 @@ held ws (Err e) = Err e
 -- what the words of a card or a test hold, or the first fault
 unfoldable pub readWords : Role → List ℕ → Result Contents WordFault
 readWords role ws = held ws (check role ws)
+
+-- words laid over a buffer from a place on; the rest of the buffer stays
+abbrev pub laid : ℕ → List ℕ → List ℕ → List ℕ
+laid at ws out = take at out ++ (ws ++ drop (at + length ws) out)
+
+-- what writing tells, and what the buffer then holds: one that is too short is refused, and stays as it is
+abbrev pub wrote : List ℕ → List ℕ → Result ℕ ShortBuffer
+wrote ws out = cond (leb (length ws) (length out)) (Ok (length ws)) (Err record {})
+
+abbrev pub buffer : List ℕ → List ℕ → List ℕ
+buffer ws out = cond (leb (length ws) (length out)) (ws ++ drop (length ws) out) out

@@ -48,4 +48,43 @@ impl WrittenCard {
         self.start = head.start;
         Ok(passing)
     }
+
+    // Reads the words of a card. A refusal leaves the card as it stood.
+    pub fn read(&mut self, words: &[u32]) -> Result<(), WordFault>
+        ensures told { λ r. ⌜ r ≡ told (readWords Card (now (words .entry))) ⌝ }
+        ensures after { λ _. ⌜ contents (now (self .exit)) ≡ after (contents (now (self .entry))) (readWords Card (now (words .entry))) ⌝ }
+        ensures written { λ r. ⌜ Cases r (λ _. written (contents (now (self .exit))) ≡ now (words .entry)) (λ _. Unit {0}) ⌝ }
+        ensures says { λ r. ⌜ Cases r (λ _. Says (now (words .entry)) (system (now (self .exit)))) (λ _. Unit {0}) ⌝ }
+    {
+        self.read_as(Role::Card, words)?;
+        Ok(())
+    }
+}
+
+pub impl Lts for WrittenCard as WrittenCardLts {
+    ghost meaning = { λ c. system c };
+
+    fn count(&self) -> usize {
+        self.states
+    }
+
+    fn start(&self) -> usize {
+        self.start
+    }
+
+    fn visible(&self, state: usize, action: usize) -> StateSet {
+        if state < 64 && action < 32 {
+            self.table[state * 33 + action]
+        } else {
+            StateSet::empty()
+        }
+    }
+
+    fn hidden(&self, state: usize) -> StateSet {
+        if state < 64 {
+            self.table[state * 33 + 32]
+        } else {
+            StateSet::empty()
+        }
+    }
 }

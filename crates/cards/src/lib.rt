@@ -6,4 +6,5 @@ pub mod lines;
 mod reading;
 mod tables;
 mod words;
+mod writing;
 pub mod written_card;

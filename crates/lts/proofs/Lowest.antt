@@ -7,7 +7,8 @@ use Prim.Native.Nat.{ℕ, zero, suc, _+_, _-_, _*_, _/_, _%_, _^_, _≤_, _<_, m
 use native.Mathlib.Omega.{arith}
 use native.Mathlib.Nat.{pow-suc, div-one, zero-div}
 use lib.Bits.{bitAnd, and-step, and-self, and-le-r}
-use lib.Count.{trailingZeros, under}
+use lib.Count.{trailingZeros, under, ones, onesIn, ones-step}
+use lib.ListN.{length, length-map}
 use lib.Dec.{eqb}
 use Rattle.std.proofs.shelf.Tests.{cases-eq}
 use Rattle.lts.specs.Sets.{In, has, membersFrom, members, Above, Ascending, Lists}
@@ -171,3 +172,23 @@ ascending-unique (x ∷ xs) (y ∷ ys) a b to fro =
 pub lists-unique : (s : ℕ) (xs ys : List ℕ) → Lists s xs → Lists s ys → xs ≡ ys
 lists-unique s xs ys l m =
     ascending-unique xs ys (l .ascending) (m .ascending) (λ q h. m .exact q .1 (l .exact q .0 h)) (λ q h. l .exact q .1 (m .exact q .0 h))
+
+ones-none : ones 0 ≡ 0
+unfolding ones onesIn
+ones-none = refl
+
+counted : (b : Bool) (xs : List ℕ) → length (cond b (0 ∷ map suc xs) (map suc xs)) ≡ cond b 1 0 + length xs
+counted true xs = omega (arith, length-map xs suc)
+counted false xs = omega (arith, length-map xs suc)
+
+low-bit : (s : ℕ) → cond (eqb (s % 2) 1) 1 0 ≡ s % 2
+low-bit s = elim (cases-eq (s % 2) 1) [ inl y ↦ rw y | inr y ↦ let e : s % 2 ≡ 0 = omega arith in rw e ]
+
+-- as many members as bits that are set
+pub ones-members : (n s : ℕ) → s < 2 ^ n → ones s ≡ length (membersFrom 0 n s)
+unfolding membersFrom
+ones-members zero s h = let z : s ≡ 0 = omega arith in ap ones z ∙ ones-none
+ones-members (suc n) s h =
+    let p = pow-suc 2 n in
+    let b : s / 2 < 2 ^ n = omega arith in
+    rw (from-zero n s) (omega (arith, ones-step s, ones-members n (s / 2) b, counted (eqb (s % 2) 1) (membersFrom 0 n (s / 2)), low-bit s))

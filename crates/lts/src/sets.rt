@@ -3,6 +3,7 @@ ghost use mathlib.Core.Path.{_≡_};
 ghost use mathlib.Core.Bool.{Bool, not};
 ghost use Prim.Native.Nat.{ℕ, _+_, _^_, _<_};
 ghost use lib.Dec.{eqb};
+ghost use lib.ListN.{length};
 ghost use Rattle.lts.specs.Sets.{has, union as unionOf, inserted, Lists, members as membersOf};
 use crate::members::Members;
 
@@ -48,6 +49,13 @@ impl StateSet {
         ensures { λ r. ⌜ r ≡ eqb (self .bits) 0 ⌝ }
     {
         self.bits == 0
+    }
+
+    // How many states are members.
+    pub fn len(self) -> usize
+        ensures { λ r. ⌜ r ≡ length (membersOf (self .bits)) ⌝ }
+    {
+        self.bits.count_ones() as usize
     }
 
     // No number above 63 is a member.

@@ -11,9 +11,16 @@ pub ghost-result : need.ghost-result
 unfolding linesFit rising
 ghost-result c =
     let m = c .in-Continue-lines .ensures tt .made in
-    let t = c .in-Continue-table .ensures tt in
-    ( (omega arith, omega arith, omega arith)
-    , ( ap (linesFit 1) (m .0)
-      , ( ap (λ (ls : List Line). rising 0 (map lineWord ls)) (m .0)
-        , ( (omega (arith, m .1 .0), m .1 .1)
-          , (t .made .1, (tabled-none 2112 _ _ _ (t .exact (λ y e. e)) (c .empty .ensures) (m .0), tt)) ) ) ) )
+    let t = c .in-Continue-table .ensures tt in (
+      (omega arith, omega arith, omega arith),
+      (
+        ap (linesFit 1) (m .0),
+        (
+          ap (λ (ls : List Line). rising 0 (map lineWord ls)) (m .0),
+          (
+            (omega (arith, m .1 .0), m .1 .1),
+            (t .made .1, (tabled-none 2112 _ _ _ (t .exact (λ y e. e)) (c .empty .ensures) (m .0), tt)),
+          ),
+        ),
+      ),
+    )

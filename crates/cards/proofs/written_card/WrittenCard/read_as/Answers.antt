@@ -33,8 +33,9 @@ fill-table-requires c κs =
     record {
       wide = c .args .self .now .wide;
       sound =
-        ap (linesFit 64) (c .deref .ensures .value ∙ c .collect-passing .ensures .lines)
-        ∙ linesFit-wider (h .states) 64 _ (taken-sized (c .args .role) (c .args .words .now) h e .most) (taken-fit (c .args .role) (c .args .words .now) h e) }
+          ap (linesFit 64) (c .deref .ensures .value ∙ c .collect-passing .ensures .lines)
+          ∙ linesFit-wider (h .states) 64 _ (taken-sized (c .args .role) (c .args .words .now) h e .most) (taken-fit (c .args .role) (c .args .words .now) h e);
+    }
 
 pub ghost-self : need.ghost-self
 ghost-self c =
@@ -42,13 +43,22 @@ ghost-self c =
     let h = c .in-Continue-head .head in
     let s = taken-sized (c .args .role) (c .args .words .now) h e in
     let l = c .collect-passing .ensures .lines in
-    let n = taken-counted (c .args .role) (c .args .words .now) h e in
-    ( (s .some, s .most, s .starts)
-    , ( ap (linesFit (h .states)) l ∙ taken-fit (c .args .role) (c .args .words .now) h e
-      , ( ap (λ (ls : List Line). rising 0 (map lineWord ls)) l ∙ taken-rising (c .args .role) (c .args .words .now) h e
-        , ( (omega (arith, c .collect-passing .last .lines .ok .0, ap length l, n, s .few), omega (arith, c .collect-passing .ensures .room, c .args .self .now .few .1))
-          , ( c .fill-table .ensures .len ∙ c .args .self .now .wide
-            , (λ i. c .fill-table .ensures .tabled i ∙ ap (λ (ls : List Line). targets ls (i / 33) (i % 33)) (c .deref .ensures .value), tt) ) ) ) ) )
+    let n = taken-counted (c .args .role) (c .args .words .now) h e in (
+      (s .some, s .most, s .starts),
+      (
+        ap (linesFit (h .states)) l ∙ taken-fit (c .args .role) (c .args .words .now) h e,
+        (
+          ap (λ (ls : List Line). rising 0 (map lineWord ls)) l ∙ taken-rising (c .args .role) (c .args .words .now) h e,
+          (
+            (omega (arith, c .collect-passing .last .lines .ok .0, ap length l, n, s .few), omega (arith, c .collect-passing .ensures .room, c .args .self .now .few .1)),
+            (
+              c .fill-table .ensures .len ∙ c .args .self .now .wide,
+              (λ i. c .fill-table .ensures .tabled i ∙ ap (λ (ls : List Line). targets ls (i / 33) (i % 33)) (c .deref .ensures .value), tt),
+            ),
+          ),
+        ),
+      ),
+    )
 
 pub returns : need.returns
 unfolding readWords
@@ -56,7 +66,8 @@ returns c =
     let e = sym (c .in-Continue-head .ensures tt) in
     record {
       taken =
-        ap (held (c .args .words .now)) e
-        ∙ ap₂ (λ (ls : List Line) (p : ℕ). Ok (record { states = c .in-Continue-head .head .states; start = c .in-Continue-head .head .start; lines = ls; passing = p }))
+          ap (held (c .args .words .now)) e
+          ∙ ap₂ (λ (ls : List Line) (p : ℕ). Ok (record { states = c .in-Continue-head .head .states; start = c .in-Continue-head .head .start; lines = ls; passing = p }))
           (sym (c .collect-passing .ensures .lines)) (sym (c .collect-passing .ensures .passing));
-      kept = tt }
+      kept = tt;
+    }
