@@ -1,16 +1,19 @@
 -- Words laid over a buffer, one after another. Assumes nothing.
 use mathlib.Core.Path.{_≡_, refl, sym, ap, ap₂, subst, _∙_}
-use mathlib.Core.List.{List, [], _∷_, _++_, append-assoc, List·Memᴰ, List·Memᴰ·head, Memᴰ·append-right}
+use mathlib.Core.List.{List, [], _∷_, _++_, map, append-assoc, List·Memᴰ, List·Memᴰ·head, Memᴰ·append-right}
 use Prim.Native.Nat.{ℕ, suc, _+_, _^_, _≤_, _<_}
-use native.Mathlib.Nat.{add-zero}
+use native.Mathlib.Nat.{add-zero, zero-add}
 use native.Mathlib.Omega.{arith}
-use lib.ListN.{length, getD, set, take, drop, length-append, length-take, take-append-drop}
+use borrow.Author.Tests.{le-leb, lt-leb}
+use lib.ListN.{length, getD, set, take, drop, length-append, length-map, length-take, take-append-drop}
 use lib.Seq.{set-append-seam, take-append-seam, drop-append-add}
 use Rattle.std.proofs.shelf.Lists.{drop-more, drop-drop}
 use Rattle.lts.specs.Sets.{members, Lists}
 use Rattle.lts.proofs.Lowest.{lists}
 use Rattle.lts.proofs.Membership.{members-below}
-use Rattle.cards.specs.Contents.{laid}
+use Rattle.std.specs.declared.result.Result.the-variants.{Ok, Err}
+use Rattle.cards.specs.Contents.{Contents, written, laid, wrote, buffer}
+use Rattle.cards.specs.Words.{lineWord, passingWord, endWord}
 
 front : ℕ → List ℕ → List ℕ → List ℕ
 front at ws out = take at out ++ ws
@@ -82,3 +85,32 @@ module _ (s rest next q : ℕ) (come : List ℕ) (h : s < 2 ^ 64) (inv : members
 
   pub come-room : length come < length (members s)
   come-room = omega (arith, ap length come-on, length-append come (q ∷ members next))
+
+-- a head, lines, passing states and an end laid one after another are laid together
+pub laid-whole : (head last n k : ℕ) (ls ps out first second third : List ℕ) → length ls ≡ n → length ps ≡ k → 1 + n + k < length out
+    → first ≡ set out 0 head → second ≡ laid 1 ls first → third ≡ laid (1 + n) ps second
+    → set third (1 + n + k) last ≡ (head ∷ (ls ++ (ps ++ (last ∷ [])))) ++ drop (length (head ∷ (ls ++ (ps ++ (last ∷ []))))) out
+laid-whole head last n k ls ps out first second third hn hk room e f g =
+    let a : first ≡ laid 0 (head ∷ []) out = e ∙ laid-step 0 0 [] (head ∷ []) out out head (sym (laid-none 0 out)) refl (omega arith) refl in
+    let b : second ≡ laid 0 (head ∷ ls) out = f ∙ ap (laid 1 ls) a ∙ laid-on 0 (head ∷ []) ls out (omega arith) in
+    let j : 1 + n ≡ 0 + length (head ∷ ls) = omega arith in
+    let c : third ≡ laid 0 ((head ∷ ls) ++ ps) out =
+    g ∙ ap₂ (λ (i : ℕ) (o : List ℕ). laid i ps o) j b ∙ laid-on 0 (head ∷ ls) ps out (omega arith) in
+    let m : 1 + n + k ≡ 0 + length ((head ∷ ls) ++ ps) = omega (arith, length-append (head ∷ ls) ps) in
+    let all : head ∷ (ls ++ (ps ++ (last ∷ []))) ≡ ((head ∷ ls) ++ ps) ++ (last ∷ []) = sym (append-assoc (head ∷ ls) ps (last ∷ [])) in
+    laid-step 0 (1 + n + k) ((head ∷ ls) ++ ps) (head ∷ (ls ++ (ps ++ (last ∷ [])))) out third last c m room all
+    ∙ ap (λ (i : ℕ). (head ∷ (ls ++ (ps ++ (last ∷ [])))) ++ drop i out) (zero-add (length (head ∷ (ls ++ (ps ++ (last ∷ []))))))
+
+pub written-length : (c : Contents) → length (written c) ≡ 1 + length (c .lines) + length (members (c .passing)) + 1
+unfolding written
+written-length c =
+    let ls = map lineWord (c .lines) in
+    let ps = map passingWord (members (c .passing)) in
+    omega (arith, length-append ls (ps ++ (endWord ∷ [])), length-append ps (endWord ∷ []), length-map (c .lines) lineWord, length-map (members (c .passing)) passingWord)
+
+-- a buffer that is too short, and one that is not
+pub short : (ws out : List ℕ) → length out < length ws → (Err record {} ≡ wrote ws out) × (out ≡ buffer ws out)
+short ws out h = (rw (lt-leb (length ws) (length out) h), rw (lt-leb (length ws) (length out) h))
+
+pub long : (ws out new : List ℕ) (n : ℕ) → length ws ≤ length out → n ≡ length ws → new ≡ ws ++ drop (length ws) out → (Ok n ≡ wrote ws out) × (new ≡ buffer ws out)
+long ws out new n h e f = (rw (le-leb (length ws) (length out) h) (ap Ok e), rw (le-leb (length ws) (length out) h) f)

@@ -34,3 +34,25 @@ fn write_passing(passing: StateSet, out: &mut [u32], at: usize)
         place += 1;
     }
 }
+
+impl WrittenCard {
+    // Writes the words of the card with these passing states, and returns how many they are; a buffer that is too short stays as it is.
+    pub(crate) fn write_as(&self, passing: StateSet, out: &mut [u32]) -> Result<usize, ShortBuffer>
+        ensures told { λ r. ⌜ r ≡ wrote (written (contentsWith (passing .bits) (now (self .entry)))) (now (out .entry)) ⌝ }
+        ensures after { λ _. ⌜ now (out .exit) ≡ buffer (written (contentsWith (passing .bits) (now (self .entry)))) (now (out .entry)) ⌝ }
+    {
+        let lines = self.lines.len();
+        let end = 1 + lines + passing.len();
+        if out.len() <= end {
+            return Err(ShortBuffer);
+        }
+        out[0] = 0x1000_0000
+            + lines as u32 * 0x1_0000
+            + self.start as u32 * 0x100
+            + self.states as u32;
+        write_lines(&self.lines, out, 1);
+        write_passing(passing, out, 1 + lines);
+        out[end] = Word::End.encode();
+        Ok(end + 1)
+    }
+}

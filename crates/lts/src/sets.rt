@@ -1,7 +1,7 @@
 // Sets of states and of actions, each one machine word.
 ghost use mathlib.Core.Path.{_≡_};
 ghost use mathlib.Core.Bool.{Bool, not};
-ghost use Prim.Native.Nat.{ℕ, _+_, _^_, _<_};
+ghost use Prim.Native.Nat.{ℕ, _≤_};
 ghost use lib.Dec.{eqb};
 ghost use lib.ListN.{length};
 ghost use Rattle.lts.specs.Sets.{has, union as unionOf, inserted, Lists, members as membersOf};
@@ -53,7 +53,8 @@ impl StateSet {
 
     // How many states are members.
     pub fn len(self) -> usize
-        ensures { λ r. ⌜ r ≡ length (membersOf (self .bits)) ⌝ }
+        ensures value { λ r. ⌜ r ≡ length (membersOf (self .bits)) ⌝ }
+        ensures bound { λ r. ⌜ r ≤ 64 ⌝ }
     {
         self.bits.count_ones() as usize
     }

@@ -7,4 +7,4 @@ pub cast-result : need.cast-result
 cast-result c = omega (arith, ones-le 64 (c .args .self .bits) (omega arith))
 
 pub returns : need.returns
-returns c = ones-members 64 (c .args .self .bits) (omega arith)
+returns c = record { value = ones-members 64 (c .args .self .bits) (omega arith); bound = ones-le 64 (c .args .self .bits) (omega arith) }
