@@ -9,3 +9,4 @@ pub mod Collected
 pub mod Meant
 pub mod Named
 pub mod Laid
+pub mod Holding

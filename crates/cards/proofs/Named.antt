@@ -22,13 +22,13 @@ use Rattle.cards.specs.declared.lines.Role.{Role}
 use Rattle.cards.specs.declared.lines.Role.the-variants.{Test}
 use Rattle.cards.specs.declared.lines.Word.{Word}
 use Rattle.cards.specs.declared.lines.Word.the-variants.{Line, Passing, End}
-use Rattle.cards.specs.Contents.{Contents, written}
+use Rattle.cards.specs.Contents.{Contents, written, readWords}
 use Rattle.cards.specs.Lines.{column, targets, systemOf, labelFits, lineFits, linesFit}
 use Rattle.cards.specs.Meaning.{Says, SaysPassing}
 use Rattle.cards.specs.Words.{lineWord, headWord, passingWord, endWord, encode, decode}
 use Rattle.cards.proofs.Meant.{Leads, in-targets, targets-in}
 use Rattle.cards.proofs.Parts.{PartFits, decode-encode}
-use Rattle.cards.proofs.RoundTrip.{Valid, line-high, listed}
+use Rattle.cards.proofs.RoundTrip.{Valid, line-high, listed, read-back, read-valid}
 use Rattle.cards.proofs.Sorted.{line-low}
 use Rattle.cards.proofs.Tabled.{both, Fits, fits}
 
@@ -151,14 +151,14 @@ module _ (role : Role) (c : Contents) (v : Valid role c) where
         ]
       ]
 
-  pub says-passing : SaysPassing (written c) (c .passing)
+  says-passing : SaysPassing (written c) (c .passing)
   says-passing q h = (passing-there q, there-passing q h)
 
   found : (x : Label) (p q : ℕ) → (l : LineT) → List·Memᴰ l (c .lines) → l .from ≡ p → l .label ≡ x → l .to ≡ q
       → List·Memᴰ (lineWord (record { from = p; label = x; to = q })) (written c)
   found x p q l m e f g = subst (λ (k : LineT). List·Memᴰ (lineWord k) (written c)) (rebuilt l p q x e f g) (line-there l m)
 
-  pub says : Says (written c) (systemOf (c .states) (c .start) (c .lines))
+  says : Says (written c) (systemOf (c .states) (c .start) (c .lines))
   says = record {
     visible = λ p a q hp ha hq.
         let line : LineT = record { from = p; label = Action a; to = q } in (
@@ -176,3 +176,11 @@ module _ (role : Role) (c : Contents) (v : Valid role c) where
           (λ m. targets-in (c .lines) line (there-line line hp hq refl m)),
         );
   }
+
+-- of words that were read
+module _ (role : Role) (ws : List ℕ) (c : Contents) (e : readWords role ws ≡ Ok c) where
+  pub says-read : Says ws (systemOf (c .states) (c .start) (c .lines))
+  says-read = subst (λ (vs : List ℕ). Says vs (systemOf (c .states) (c .start) (c .lines))) (read-back role ws c e) (says role c (read-valid role ws c e))
+
+  pub passing-read : SaysPassing ws (c .passing)
+  passing-read = subst (λ (vs : List ℕ). SaysPassing vs (c .passing)) (read-back role ws c e) (says-passing role c (read-valid role ws c e))

@@ -5,3 +5,4 @@ pub mod Reading
 pub mod Contents
 pub mod Meaning
 pub mod Cards
+pub mod Tests

@@ -8,9 +8,10 @@ ghost use Rattle.std.specs.Vec.{made};
 ghost use Rattle.std.specs.declared.result.Result.the-variants.{Ok, Err};
 ghost use Rattle.cards.specs.declared.lines.Role.the-variants.{Card};
 ghost use Rattle.cards.specs.Cards.{contents, contentsWith, system, told, after};
-ghost use Rattle.cards.specs.Contents.{readWords, written};
+ghost use Rattle.cards.specs.Contents.{readWords, written, wrote, buffer};
 ghost use Rattle.cards.specs.Meaning.{Says};
 use crate::collecting::collect;
+use crate::faults::ShortBuffer;
 use crate::faults::WordFault;
 use crate::lines::*;
 use crate::reading::check;
@@ -58,6 +59,16 @@ impl WrittenCard {
     {
         self.read_as(Role::Card, words)?;
         Ok(())
+    }
+
+    // Writes the words of the card and returns how many they are; what lies beyond them stays, and so does a buffer that is too short.
+    // Reading these words gives the same card.
+    pub fn write(&self, out: &mut [u32]) -> Result<usize, ShortBuffer>
+        ensures told { λ r. ⌜ r ≡ wrote (written (contents (now (self .entry)))) (now (out .entry)) ⌝ }
+        ensures after { λ _. ⌜ now (out .exit) ≡ buffer (written (contents (now (self .entry)))) (now (out .entry)) ⌝ }
+        ensures again { λ _. ⌜ readWords Card (written (contents (now (self .entry)))) ≡ Ok (contents (now (self .entry))) ⌝ }
+    {
+        self.write_as(StateSet::empty(), out)
     }
 }
 

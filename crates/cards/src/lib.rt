@@ -5,6 +5,8 @@ pub mod faults;
 pub mod lines;
 mod reading;
 mod tables;
+pub mod test_calls;
 mod words;
 mod writing;
 pub mod written_card;
+pub mod written_test;

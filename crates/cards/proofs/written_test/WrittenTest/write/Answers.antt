@@ -1,0 +1,22 @@
+use mathlib.Core.Path.{_≡_}
+use mathlib.Core.Bool.{true, false}
+use native.Mathlib.Omega.{arith}
+use Prim.Native.Nat.{ℕ}
+use Rattle.cards.specs.declared.lines.Role.the-variants.{Test}
+use Rattle.cards.specs.Tests.{testContents}
+use Rattle.cards.proofs.Holding.{held-valid}
+use Rattle.cards.proofs.RoundTrip.{read-written}
+use Rattle.cards.proofs.written_test.WrittenTest.write.Needs as need
+
+-- true is not false
+not-false : true ≡ false → ⊥
+not-false e = let z : _≡_ {A = ℕ} 0 1 = cc in omega arith
+
+pub returns : need.returns
+returns c =
+    let t = c .args .self .now in
+    record {
+      told = c .write-as .ensures .told;
+      after = c .write-as .ensures .after;
+      again = read-written Test (testContents t) (held-valid Test (t .passing .bits) (t .card) (t .within) (λ e. absurd (not-false e)));
+    }
