@@ -6,3 +6,4 @@ pub mod Contents
 pub mod Meaning
 pub mod Cards
 pub mod Tests
+pub mod Bytes

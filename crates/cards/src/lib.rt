@@ -1,4 +1,5 @@
 // Cards: systems and tests that are written down as words.
+mod bytes;
 pub mod card_calls;
 mod collecting;
 pub mod faults;
