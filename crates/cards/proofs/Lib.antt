@@ -10,3 +10,4 @@ pub mod Meant
 pub mod Named
 pub mod Laid
 pub mod Holding
+pub mod Files

@@ -63,3 +63,30 @@ bothSides (Err e) r = Err (Left (record { card = e }))
 
 unfoldable pub readSides : List ℕ → List ℕ → Result Sides SideFault
 readSides left right = bothSides (readBytes Card left) (readBytes Card right)
+
+-- what reading a file, or two, tells, and what is held afterwards: a refusal leaves all as it stood
+abbrev pub toldOf : {A F : Type 0} → Result A F → Result (Unit {0}) F
+toldOf (Ok c) = Ok tt
+toldOf (Err e) = Err e
+
+abbrev pub afterOf : {A B F : Type 0} → (A → B) → B → Result A F → B
+afterOf f old (Ok c) = f c
+afterOf f old (Err e) = old
+
+abbrev pub fileAfter : Contents → Result Contents CardFault → Contents
+fileAfter old r = afterOf (λ c. c) old r
+
+abbrev pub leftAfter : Contents → Result Sides SideFault → Contents
+leftAfter old r = afterOf (λ s. s .left) old r
+
+abbrev pub rightAfter : Contents → Result Sides SideFault → Contents
+rightAfter old r = afterOf (λ s. s .right) old r
+
+-- a file's fault as a left or a right one
+abbrev pub inLeft : Result Contents CardFault → Result (Unit {0}) LeftFault
+inLeft (Ok c) = Ok tt
+inLeft (Err e) = Err (record { card = e })
+
+abbrev pub inRight : Result Contents CardFault → Result (Unit {0}) RightFault
+inRight (Ok c) = Ok tt
+inRight (Err e) = Err (record { card = e })

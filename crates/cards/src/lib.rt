@@ -5,6 +5,7 @@ mod collecting;
 pub mod faults;
 pub mod lines;
 mod reading;
+pub mod sides;
 mod tables;
 pub mod test_calls;
 mod words;
