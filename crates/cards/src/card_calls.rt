@@ -1,7 +1,8 @@
 // Making, reading and asking written cards.
 ghost use mathlib.Core.Path.{_≡_};
 ghost use mathlib.Core.List.{[]};
-ghost use Prim.Native.Nat.{ℕ};
+ghost use Prim.Native.Nat.{ℕ, _≤_};
+ghost use lib.ListN.{length};
 ghost use Rattle.std.specs.Of.Vec.{vec-items};
 ghost use Rattle.std.specs.Results.{Cases};
 ghost use Rattle.std.specs.Vec.{made};
@@ -37,6 +38,13 @@ impl WrittenCard {
         })
     }
 
+    // The lines, in the order of their words.
+    pub fn lines(&self) -> &[Line]
+        ensures { λ r. ⌜ now r ≡ contents (now (self .entry)) .lines ⌝ }
+    {
+        self.lines.as_slice()
+    }
+
     // Fills the card from the words of a card or a test, and returns the passing states that they name.
     pub(crate) fn read_as(&mut self, role: Role, words: &[u32]) -> Result<StateSet, WordFault>
         ensures taken { λ r. ⌜ Cases r (λ p. readWords role (now (words .entry)) ≡ Ok (contentsWith (p .bits) (now (self .exit)))) (λ f. readWords role (now (words .entry)) ≡ Err f) ⌝ }
@@ -67,6 +75,7 @@ impl WrittenCard {
         ensures told { λ r. ⌜ r ≡ wrote (written (contents (now (self .entry)))) (now (out .entry)) ⌝ }
         ensures after { λ _. ⌜ now (out .exit) ≡ buffer (written (contents (now (self .entry)))) (now (out .entry)) ⌝ }
         ensures again { λ _. ⌜ readWords Card (written (contents (now (self .entry)))) ≡ Ok (contents (now (self .entry))) ⌝ }
+        ensures few { λ _. ⌜ length (written (contents (now (self .entry)))) ≤ 258 ⌝ }
     {
         self.write_as(StateSet::empty(), out)
     }

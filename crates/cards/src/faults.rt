@@ -1,5 +1,6 @@
 // Why words are refused, and how a word's fault travels: inside its card's, and that inside the fault that names the side.
 ghost use mathlib.Core.Path.{_≡_};
+ghost use Rattle.cards.specs.Faults.{number as numberOf};
 ghost use Rattle.cards.specs.declared.faults.SideFault.the-variants.{Left, Right};
 
 // Why a word is refused.
@@ -17,6 +18,22 @@ pub enum Reason {
     Lines,
     // something follows the end word
     Trailing,
+}
+
+impl Reason {
+    // The number under which the refusal is told.
+    pub fn number(self) -> u8
+        ensures { λ r. ⌜ r ≡ numberOf self ⌝ }
+    {
+        match self {
+            Reason::Missing => 1,
+            Reason::Kind => 2,
+            Reason::Range => 3,
+            Reason::Order => 4,
+            Reason::Lines => 5,
+            Reason::Trailing => 6,
+        }
+    }
 }
 
 // A refused word and its place, counted from 0.

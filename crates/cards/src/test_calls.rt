@@ -1,7 +1,8 @@
 // Making, reading, writing and asking written tests.
 ghost use mathlib.Core.Path.{_≡_};
 ghost use mathlib.Core.List.{[]};
-ghost use Prim.Native.Nat.{ℕ};
+ghost use Prim.Native.Nat.{ℕ, _≤_};
+ghost use lib.ListN.{length};
 ghost use Rattle.std.specs.Results.{Cases};
 ghost use Rattle.std.specs.Vec.{made};
 ghost use Rattle.std.specs.declared.result.Result.the-variants.{Ok};
@@ -52,6 +53,7 @@ impl WrittenTest {
         ensures told { λ r. ⌜ r ≡ wrote (written (testContents (now (self .entry)))) (now (out .entry)) ⌝ }
         ensures after { λ _. ⌜ now (out .exit) ≡ buffer (written (testContents (now (self .entry)))) (now (out .entry)) ⌝ }
         ensures again { λ _. ⌜ readWords TestRole (written (testContents (now (self .entry)))) ≡ Ok (testContents (now (self .entry))) ⌝ }
+        ensures few { λ _. ⌜ length (written (testContents (now (self .entry)))) ≤ 322 ⌝ }
     {
         self.card.write_as(self.passing, out)
     }

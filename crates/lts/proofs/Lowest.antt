@@ -7,7 +7,7 @@ use Prim.Native.Nat.{ℕ, zero, suc, _+_, _-_, _*_, _/_, _%_, _^_, _≤_, _<_, m
 use native.Mathlib.Omega.{arith}
 use native.Mathlib.Nat.{pow-suc, div-one, zero-div}
 use lib.Bits.{bitAnd, and-step, and-self, and-le-r}
-use lib.Count.{trailingZeros, under, ones, onesIn, ones-step}
+use lib.Count.{trailingZeros, under, ones, onesIn, ones-step, ones-le}
 use lib.ListN.{length, length-map}
 use lib.Dec.{eqb}
 use Rattle.std.proofs.shelf.Tests.{cases-eq}
@@ -192,3 +192,6 @@ ones-members (suc n) s h =
     let p = pow-suc 2 n in
     let b : s / 2 < 2 ^ n = omega arith in
     rw (from-zero n s) (omega (arith, ones-step s, ones-members n (s / 2) b, counted (eqb (s % 2) 1) (membersFrom 0 n (s / 2)), low-bit s))
+
+pub members-few : (s : ℕ) → s < 2 ^ 64 → length (members s) ≤ 64
+members-few s h = omega (arith, ones-members 64 s h, ones-le 64 s h)

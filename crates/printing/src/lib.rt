@@ -1,0 +1,3 @@
+// Text that people read.
+pub mod cards_shown;
+mod numerals;
