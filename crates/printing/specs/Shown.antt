@@ -4,10 +4,15 @@ use mathlib.Core.List.{List, [], _∷_, _++_}
 use lib.ListN.{length}
 use Rattle.std.specs.Written.{decimal}
 use lib.Chars.{codes}
+use Rattle.std.specs.declared.result.Result.{Result}
+use Rattle.std.specs.declared.result.Result.the-variants.{Ok, Err}
+use Rattle.cards.specs.declared.faults.CardFault.{CardFault}
 use Rattle.cards.specs.declared.faults.WordFault.{WordFault}
+use Rattle.cards.specs.declared.lines.Role.the-variants.{Card}
 use Rattle.cards.specs.declared.lines.Label.{Label}
 use Rattle.cards.specs.declared.lines.Label.the-variants.{Action, Silent}
 use Rattle.cards.specs.declared.lines.Line.{Line}
+use Rattle.cards.specs.Bytes.{readBytes}
 use Rattle.cards.specs.Contents.{Contents, written}
 use Rattle.cards.specs.Faults.{number}
 use Rattle.printing.specs.Numerals.{hexWord}
@@ -44,3 +49,11 @@ cardText c = headText c ++ (linesText (c .lines) ++ (codes "words" ++ (wordsText
 -- what is wrong with it
 abbrev pub faultText : WordFault → List ℕ
 faultText f = codes "FAULT " ++ (decimal (number (f .reason)) ++ (codes " at " ++ (decimal (f .place) ++ newline)))
+
+-- what is shown of a file
+abbrev pub shownText : Result Contents CardFault → List ℕ
+shownText (Ok c) = cardText c
+shownText (Err e) = faultText (e .word)
+
+abbrev pub fileText : List ℕ → List ℕ
+fileText bs = shownText (readBytes Card bs)

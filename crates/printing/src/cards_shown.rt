@@ -5,7 +5,7 @@ ghost use Rattle.std.specs.Of.String.{string-bytes};
 ghost use Rattle.std.specs.Vec.{made};
 ghost use Rattle.cards.specs.Cards.{contents};
 ghost use Rattle.cards.specs.Contents.{written};
-ghost use Rattle.printing.specs.Shown.{lineText, linesText, wordsText, headText, cardText, faultText};
+ghost use Rattle.printing.specs.Shown.{lineText, linesText, wordsText, headText, cardText, faultText, fileText};
 use crate::numerals::push_hex;
 use cards::card_calls::WrittenCardLts;
 use cards::faults::CardFault;
@@ -89,4 +89,15 @@ pub fn card_text(heap: Global, card: &WrittenCard) -> Result<String, AllocError>
     push_written(&mut text, card)?;
     text.push_str("\n")?;
     Ok(text)
+}
+
+// What a card file is, or what is wrong with it.
+pub fn file_text(heap: Global, bytes: &[u8]) -> Result<String, AllocError>
+    ensures { λ r. ⌜ made r (λ s. string-bytes s ≡ fileText (now (bytes .entry))) ⌝ }
+{
+    let mut card = WrittenCard::new(heap)?;
+    match card.read_bytes(bytes) {
+        Ok(()) => card_text(heap, &card),
+        Err(fault) => fault_text(heap, fault),
+    }
 }
