@@ -1,1 +1,5 @@
 pub mod Membership
+pub mod Cycles
+pub mod Walking
+pub mod TraceStates
+pub mod Antichains

@@ -1,3 +1,6 @@
 pub mod Sets
 pub mod System
 pub mod Traces
+pub mod Walks
+pub mod Macrostates
+pub mod Families
