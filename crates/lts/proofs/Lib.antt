@@ -3,3 +3,4 @@ pub mod Cycles
 pub mod Walking
 pub mod TraceStates
 pub mod Antichains
+pub mod Marks

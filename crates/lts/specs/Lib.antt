@@ -4,3 +4,4 @@ pub mod Traces
 pub mod Walks
 pub mod Macrostates
 pub mod Families
+pub mod NodeTables

@@ -1,3 +1,4 @@
-// Labelled transition systems: sets of states and actions, and the interface that every kind of system meets.
+// Labelled transition systems: sets of states and actions, the interface that every kind of system meets, and where a trace leads.
 pub mod sets;
 pub mod system;
+pub mod node_table;
