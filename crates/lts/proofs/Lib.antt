@@ -4,3 +4,4 @@ pub mod Walking
 pub mod TraceStates
 pub mod Antichains
 pub mod Marks
+pub mod Searches

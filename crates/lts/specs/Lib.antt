@@ -4,4 +4,5 @@ pub mod Traces
 pub mod Walks
 pub mod Macrostates
 pub mod Families
+pub mod Graphs
 pub mod NodeTables

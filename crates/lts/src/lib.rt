@@ -2,3 +2,4 @@
 pub mod sets;
 pub mod system;
 pub mod node_table;
+pub mod graphs;
