@@ -1,5 +1,5 @@
 // Labelled transition systems: sets of states and actions, the interface that every kind of system meets, and where a trace leads.
+pub mod graphs;
+pub mod node_table;
 pub mod sets;
 pub mod system;
-pub mod node_table;
-pub mod graphs;
