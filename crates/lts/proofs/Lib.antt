@@ -5,3 +5,5 @@ pub mod TraceStates
 pub mod Antichains
 pub mod Marks
 pub mod Searches
+pub mod Tabled
+pub mod Lowest

@@ -6,3 +6,6 @@ pub mod Macrostates
 pub mod Families
 pub mod Graphs
 pub mod NodeTables
+pub mod Tables
+pub mod Transitions
+pub mod Unions

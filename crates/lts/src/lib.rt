@@ -3,3 +3,5 @@ pub mod graphs;
 pub mod node_table;
 pub mod sets;
 pub mod system;
+mod tables;
+pub mod transitions;
