@@ -7,3 +7,4 @@ pub mod Marks
 pub mod Searches
 pub mod Tabled
 pub mod Lowest
+pub mod UnionSteps

@@ -40,13 +40,16 @@ odd-off s e = record {
   lowest = λ i b h. omega arith;
   other = λ i d h. rest i d h;
   part = λ i h. back i h;
-  gone = even-out (s - 1) (omega arith) }
+  gone = even-out (s - 1) (omega arith);
+}
   where
     same : (s - 1) / 2 ≡ s / 2
     same = omega arith
+
     rest : (i : ℕ) → i ≢ 0 → In i s → In i (s - 1)
     rest zero d h = absurd (d refl)
     rest (suc i) d h = in-suc i (s - 1) (subst (λ (x : ℕ). In i x) (sym same) (in-half i s h))
+
     back : (i : ℕ) → In i (s - 1) → In i s
     back zero h = absurd (even-out (s - 1) (omega arith) h)
     back (suc i) h = in-suc i s (subst (λ (x : ℕ). In i x) same (in-half i (s - 1) h))
@@ -58,14 +61,17 @@ even-off s j t e f o = record {
   lowest = lowest;
   other = other;
   part = part;
-  gone = λ h. o .gone (in-half j t h) }
+  gone = λ h. o .gone (in-half j t h);
+}
   where
     lowest : (i : ℕ) → i < suc j → ¬ In i s
     lowest zero b h = even-out s e h
     lowest (suc i) b h = o .lowest i (omega arith) (in-half i s h)
+
     other : (i : ℕ) → i ≢ suc j → In i s → In i t
     other zero d h = absurd (even-out s e h)
     other (suc i) d h = in-suc i t (o .other i (λ q. d (ap suc q)) (in-half i s h))
+
     part : (i : ℕ) → In i t → In i s
     part zero h = absurd (even-out t f h)
     part (suc i) h = in-suc i s (o .part i (in-half i t h))
@@ -104,8 +110,9 @@ found-even k s e h f =
 lowest-found : (k s : ℕ) → 0 < s → s < 2 ^ k → Found k s (trailingZeros k s) (bitAnd s (s - 1))
 lowest-found zero s h l = absurd (omega arith)
 lowest-found (suc k) s h l = elim (cases-eq (s % 2) 1) [
-    inl y ↦ found-odd k s y
-  | inr y ↦ found-even k s (omega arith) h (lowest-found k (s / 2) (omega arith) (omega (arith, pow-suc 2 k))) ]
+  | inl y ↦ found-odd k s y
+  | inr y ↦ found-even k s (omega arith) h (lowest-found k (s / 2) (omega arith) (omega (arith, pow-suc 2 k)))
+]
 
 -- lists of members
 same-has : (i s t : ℕ) → (In i s → In i t) → (In i t → In i s) → has i s ≡ has i t
@@ -120,15 +127,16 @@ members-off : (n k s j t : ℕ) → Off s j t → k ≤ j → j < k + n → memb
 unfolding membersFrom
 members-off zero k s j t o a b = absurd (omega arith)
 members-off (suc n) k s j t o a b = elim (cases-eq k j) [
-    inl y ↦
+  | inl y ↦
       (let yes′ : has k s ≡ true = in-has k s (subst (λ (i : ℕ). In i s) (sym y) (o .member)) in
-       let no′ : has k t ≡ false = out-has k t (λ h. o .gone (subst (λ (i : ℕ). In i t) y h)) in
-       let rest = members-same n (suc k) s t (λ i c. same-has i s t (o .other i (λ q. omega arith)) (o .part i)) in
-       rw (yes′, no′, rest, y))
+      let no′ : has k t ≡ false = out-has k t (λ h. o .gone (subst (λ (i : ℕ). In i t) y h)) in
+      let rest = members-same n (suc k) s t (λ i c. same-has i s t (o .other i (λ q. omega arith)) (o .part i)) in
+      rw (yes′, no′, rest, y))
   | inr d ↦
       (let no′ : has k s ≡ false = out-has k s (o .lowest k (omega arith)) in
-       let no″ : has k t ≡ false = out-has k t (λ h. o .lowest k (omega arith) (o .part k h)) in
-       rw (no′, no″) (members-off n (suc k) s j t o (omega arith) (omega arith))) ]
+      let no″ : has k t ≡ false = out-has k t (λ h. o .lowest k (omega arith) (o .part k h)) in
+      rw (no′, no″) (members-off n (suc k) s j t o (omega arith) (omega arith)))
+]
 
 pub take-lowest : (s : ℕ) → 0 < s → s < 2 ^ 64 → Lowest s (trailingZeros 64 s) (bitAnd s (s - 1))
 take-lowest s h l =
@@ -137,8 +145,9 @@ take-lowest s h l =
       taken = members-off 64 0 s (trailingZeros 64 s) (bitAnd s (s - 1)) (r .0) zero-le (omega (arith, r .1));
       below = r .1;
       fewer = (let a = subset-le (bitAnd s (s - 1)) s (r .0 .part) in
-               let d : bitAnd s (s - 1) ≢ s = λ e. r .0 .gone (subst (λ (x : ℕ). In (trailingZeros 64 s) x) (sym e) (r .0 .member)) in
-               omega arith) }
+          let d : bitAnd s (s - 1) ≢ s = λ e. r .0 .gone (subst (λ (x : ℕ). In (trailingZeros 64 s) x) (sym e) (r .0 .member)) in
+          omega arith);
+    }
 
 -- the members among n + 1 numbers: those among n, and the last
 pub members-last : (n k j s : ℕ) → j ≡ k + n → membersFrom k (suc n) s ≡ membersFrom k n s ++ cond (has j s) (j ∷ []) []

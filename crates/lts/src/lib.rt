@@ -4,4 +4,5 @@ pub mod node_table;
 pub mod sets;
 pub mod system;
 mod tables;
+pub mod tabulated;
 pub mod transitions;
