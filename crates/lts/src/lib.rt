@@ -4,5 +4,6 @@ pub mod node_table;
 pub mod sets;
 pub mod system;
 mod tables;
+pub mod tabulate;
 pub mod tabulated;
 pub mod transitions;
