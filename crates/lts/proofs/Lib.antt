@@ -8,3 +8,5 @@ pub mod Searches
 pub mod Tabled
 pub mod Lowest
 pub mod UnionSteps
+pub mod Derivations
+pub mod TableLaws

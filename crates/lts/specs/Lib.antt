@@ -7,5 +7,6 @@ pub mod Families
 pub mod Graphs
 pub mod NodeTables
 pub mod Tables
+pub mod Derived
 pub mod Transitions
 pub mod Unions

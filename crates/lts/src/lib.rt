@@ -7,3 +7,4 @@ mod tables;
 pub mod tabulate;
 pub mod tabulated;
 pub mod transitions;
+mod derive;
