@@ -10,3 +10,4 @@ pub mod Tables
 pub mod Derived
 pub mod Transitions
 pub mod Unions
+pub mod Compiled

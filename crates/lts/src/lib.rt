@@ -1,4 +1,7 @@
 // Labelled transition systems: sets of states and actions, the interface that every kind of system meets, and where a trace leads.
+pub mod compile;
+pub mod compiled;
+mod derive;
 pub mod graphs;
 pub mod node_table;
 pub mod sets;
@@ -7,4 +10,3 @@ mod tables;
 pub mod tabulate;
 pub mod tabulated;
 pub mod transitions;
-mod derive;
