@@ -10,3 +10,4 @@ pub mod Lowest
 pub mod UnionSteps
 pub mod Derivations
 pub mod TableLaws
+pub mod FamilySteps

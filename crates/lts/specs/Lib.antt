@@ -11,3 +11,4 @@ pub mod Derived
 pub mod Transitions
 pub mod Unions
 pub mod Compiled
+pub mod Offered

@@ -10,3 +10,4 @@ mod tables;
 pub mod tabulate;
 pub mod tabulated;
 pub mod transitions;
+pub mod family;
