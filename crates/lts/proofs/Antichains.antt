@@ -15,6 +15,7 @@ use Rattle.lts.specs.System.{System, Lawful}
 use Rattle.lts.specs.Traces.{After, Acceptance, Minimal, offer}
 use Rattle.lts.specs.Macrostates.{macrostate}
 use Rattle.lts.specs.Families.{Member, Above, Ascending, within, covered, allCovered, follows, followed, antichain, without, placed, offered, minimalBelow, minimal}
+use Rattle.lts.specs.Offered.{Incomparable}
 use Rattle.lts.proofs.Membership.{same-members, in-and, and-in, has-in, in-has, members-below}
 use Rattle.lts.proofs.TraceStates.{states-after, after-below}
 
@@ -88,6 +89,9 @@ followed-above x (y ∷ ys) e =
 pub antichain-ascending : (l : List ℕ) → antichain l ≡ true → Ascending l
 antichain-ascending [] a = tt
 antichain-ascending (x ∷ l) a = let p = antichain-parts x l a in (followed-above x l (p .0), antichain-ascending l (p .1))
+
+pub antichain-incomparable : (l : List ℕ) → antichain l ≡ true → Incomparable l
+antichain-incomparable l a x y h i f = alike x y l a h i (subset-within x y f)
 
 -- a set that contains one of the list
 pub covered-member : (x : ℕ) (l : List ℕ) → covered x l ≡ true → (y : ℕ) × Member y l × (within y x ≡ true)
@@ -353,3 +357,6 @@ self-covered xs = covered-all xs xs (λ x h. member-covered x x xs h (within-sel
 
 pub same-families : (xs ys : List ℕ) → xs ≡ ys → (allCovered xs ys && allCovered ys xs) ≡ true
 same-families xs ys e = subst (λ (l : List ℕ). (allCovered xs l && allCovered l xs) ≡ true) e (and-from (allCovered xs xs) (allCovered xs xs) (self-covered xs) (self-covered xs))
+
+pub families-equal : (r : Bool) (xs ys : List ℕ) → antichain xs ≡ true → antichain ys ≡ true → r ≡ (allCovered xs ys && allCovered ys xs) → r ≡ true ↔ xs ≡ ys
+families-equal r xs ys a b e = ((λ t. families-same xs ys a b (sym e ∙ t)), (λ q. e ∙ same-families xs ys q))

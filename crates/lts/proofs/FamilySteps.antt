@@ -7,7 +7,7 @@ use native.Mathlib.Omega.{arith}
 use lib.Dec.{ltb}
 use lib.ListN.{getD, length, take, drop}
 use Rattle.std.specs.shelf.Lists.{kept-by}
-use Rattle.std.proofs.shelf.Lists.{drop-all, drop-more, drop-map, map-more, take-map, length-map}
+use Rattle.std.proofs.shelf.Lists.{drop-all, drop-more, drop-map, map-append, map-more, take-map}
 use Rattle.std.proofs.shelf.Tests.{cond-true, cond-false, lt-ltb, le-ltb}
 use Rattle.lts.specs.Families.{within, covered, allCovered, without, placed, offered}
 use Rattle.lts.specs.Offered.{bitsOf, free}
@@ -49,10 +49,10 @@ module _ (x : ℕ) (l : List ActionSet) where
   unfolding placed
   passed-more i b q p =
       let here : placed x (drop i (bitsOf l)) ≡ offerAt l i ∷ placed x (drop (i + 1) (bitsOf l)) =
-            ap (placed x) (rest-more l i b) ∙ cond-false (ltb x (offerAt l i)) _ _ (le-ltb x (offerAt l i) q) in
+      ap (placed x) (rest-more l i b) ∙ cond-false (ltb x (offerAt l i)) _ _ (le-ltb x (offerAt l i) q) in
       p ∙ (ap (λ (xs : List ℕ). take i (bitsOf l) ++ xs) here
-          ∙ (sym (append-assoc (take i (bitsOf l)) (offerAt l i ∷ []) (placed x (drop (i + 1) (bitsOf l))))
-            ∙ ap (λ (xs : List ℕ). xs ++ placed x (drop (i + 1) (bitsOf l))) (sym (front-more l i b))))
+      ∙ (sym (append-assoc (take i (bitsOf l)) (offerAt l i ∷ []) (placed x (drop (i + 1) (bitsOf l))))
+      ∙ ap (λ (xs : List ℕ). xs ++ placed x (drop (i + 1) (bitsOf l))) (sym (front-more l i b))))
 
   pub passed-here : (i : ℕ) → i < length l → x < offerAt l i → Passed i → Placed i
   unfolding placed
@@ -88,3 +88,20 @@ without-kept x (s ∷ l) = pick (within x (s .bits)) (kept-by (free x) l) (witho
 pub free-if : (x : ℕ) (s : ActionSet) (b : Bool) → within x (s .bits) ≡ b → free x s ≡ not b
 unfolding free
 free-if x s b e = ap not e
+
+-- one set more at a place
+bits-inserted : (l : List ActionSet) (i : ℕ) (s : ActionSet) → bitsOf (take i l ++ s ∷ drop i l) ≡ take i (bitsOf l) ++ s .bits ∷ drop i (bitsOf l)
+bits-inserted l i s =
+    map-append (λ s. s .bits) (take i l) (s ∷ drop i l)
+    ∙ (ap (λ (xs : List ℕ). xs ++ s .bits ∷ bitsOf (drop i l)) (sym (take-map (λ s. s .bits) i l)) ∙ ap (λ (xs : List ℕ). take i (bitsOf l) ++ s .bits ∷ xs) (sym (drop-map (λ s. s .bits) i l)))
+
+pub offered-known : (x : ℕ) (l : List ActionSet) → covered x (bitsOf l) ≡ true → bitsOf l ≡ offered x (bitsOf l)
+unfolding offered
+offered-known x l e = sym (cond-true (covered x (bitsOf l)) (bitsOf l) _ e)
+
+-- the sets that contain s have been taken out of l, and s put in its place
+pub offered-new : (s : ActionSet) (l left after : List ActionSet) (i : ℕ) → covered (s .bits) (bitsOf l) ≡ false → bitsOf left ≡ without (s .bits) (bitsOf l)
+    → Placed (s .bits) left i → after ≡ take i left ++ s ∷ drop i left → bitsOf after ≡ offered (s .bits) (bitsOf l)
+unfolding offered
+offered-new s l left after i e w p q =
+    ap bitsOf q ∙ (bits-inserted left i s ∙ (sym p ∙ (ap (placed (s .bits)) w ∙ sym (cond-false (covered (s .bits) (bitsOf l)) (bitsOf l) _ e))))

@@ -2,6 +2,7 @@
 pub mod compile;
 pub mod compiled;
 mod derive;
+pub mod family;
 pub mod graphs;
 pub mod node_table;
 pub mod sets;
@@ -10,4 +11,3 @@ mod tables;
 pub mod tabulate;
 pub mod tabulated;
 pub mod transitions;
-pub mod family;

@@ -16,12 +16,13 @@ pub loop-i-again : need.loop-i-again
 loop-i-again c =
     let here : c .loop-i .i < length (vec-items (c .loop-i .sets)) = omega (arith, c .loop-i .sets .ok .0, c .loop-i .inv .2) in
     elim (c .if-not-is-within .came) [
-    then-not-is-within w ↦
-      rw (w .sets-is, w .left-is)
-      (keeping-more-set (c .loop-i .inv .0) here (free-if _ _ _ (sym (w .if-not-is-within .ensures tt))) (c .index-set .ensures), c .loop-i .inv .1, c .loop-i .inv .2)
-  | else-not-is-within w ↦
-      rw (w .sets-is, w .left-is)
-      (keeping-more-no (c .loop-i .inv .0) here (free-if _ _ _ (sym (w .if-not-is-within .ensures tt))) (c .index-set .ensures), c .loop-i .inv .1, c .loop-i .inv .2) ]
+      | then-not-is-within w ↦
+          rw (w .sets-is, w .left-is)
+          (keeping-more-set (c .loop-i .inv .0) here (free-if _ _ _ (sym (w .if-not-is-within .ensures tt))) (c .index-set .ensures), c .loop-i .inv .1, c .loop-i .inv .2)
+      | else-not-is-within w ↦
+          rw (w .sets-is, w .left-is)
+          (keeping-more-no (c .loop-i .inv .0) here (free-if _ _ _ (sym (w .if-not-is-within .ensures tt))) (c .index-set .ensures), c .loop-i .inv .1, c .loop-i .inv .2)
+    ]
 
 pub returns : need.returns
 returns c =
@@ -29,4 +30,5 @@ returns c =
     record {
       items = ap bitsOf (c .truncate .ensures .items ∙ keeping-all keeping (omega (arith, c .args .sets .now .ok .0))) ∙ without-kept (c .args .offer .bits) (vec-items (c .args .sets .now));
       len = omega (arith, c .truncate .ensures .len, c .loop-i .inv .2);
-      capacity = c .truncate .ensures .capacity ∙ c .loop-i .inv .1 }
+      capacity = c .truncate .ensures .capacity ∙ c .loop-i .inv .1;
+    }

@@ -8,7 +8,8 @@ use Rattle.lts.proofs.family.place_of.Needs as need
 pub returns-then-bits : need.returns-then-bits
 returns-then-bits c = record {
   within = omega arith;
-  place = passed-here (c .args .offer .bits) (c .args .sets .now) (c .loop-i .i) (c .loop-i-test .taken) (omega arith) (c .loop-i .inv) }
+  place = passed-here (c .args .offer .bits) (c .args .sets .now) (c .loop-i .i) (c .loop-i-test .taken) (omega arith) (c .loop-i .inv);
+}
 
 pub loop-i-again : need.loop-i-again
 loop-i-again c = passed-more (c .args .offer .bits) (c .args .sets .now) (c .loop-i .i) (c .loop-i-test .taken) (omega arith) (c .loop-i .inv)
@@ -19,4 +20,5 @@ returns c =
     record {
       within = omega arith;
       place = subst (λ (i : ℕ). Placed (c .args .offer .bits) (c .args .sets .now) i) whole
-        (passed-all (c .args .offer .bits) (c .args .sets .now) (c .loop-i .i) (c .loop-i-test .left) (c .loop-i .inv)) }
+          (passed-all (c .args .offer .bits) (c .args .sets .now) (c .loop-i .i) (c .loop-i-test .left) (c .loop-i .inv));
+    }
