@@ -11,3 +11,4 @@ pub mod UnionSteps
 pub mod Derivations
 pub mod TableLaws
 pub mod FamilySteps
+pub mod TraceSteps

@@ -65,6 +65,11 @@ placed x (y ∷ ys) = cond (ltb x y) (x ∷ y ∷ ys) (y ∷ placed x ys)
 unfoldable pub offered : ℕ → List ℕ → List ℕ
 offered x l = cond (covered x l) l (placed x (without x l))
 
+-- the minimal sets after the offers f q of all q of a list
+unfoldable pub offeredAll : (ℕ → ℕ) → List ℕ → List ℕ → List ℕ
+offeredAll f [] l = l
+offeredAll f (q ∷ qs) l = offeredAll f qs (offered (f q) l)
+
 -- the minimal sets among the offers of the stable states of S below n
 unfoldable pub minimalBelow : System → ℕ → ℕ → List ℕ
 minimalBelow m S zero = []

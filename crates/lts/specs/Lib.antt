@@ -12,3 +12,4 @@ pub mod Transitions
 pub mod Unions
 pub mod Compiled
 pub mod Offered
+pub mod Shown

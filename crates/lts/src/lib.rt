@@ -11,3 +11,5 @@ mod tables;
 pub mod tabulate;
 pub mod tabulated;
 pub mod transitions;
+pub mod macrostate;
+pub mod macrostates;
