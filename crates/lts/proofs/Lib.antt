@@ -12,3 +12,4 @@ pub mod Derivations
 pub mod TableLaws
 pub mod FamilySteps
 pub mod TraceSteps
+pub mod MinimalSteps
