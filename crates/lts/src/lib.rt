@@ -13,3 +13,5 @@ mod tables;
 pub mod tabulate;
 pub mod tabulated;
 pub mod transitions;
+#[cfg(test)]
+mod tests;
