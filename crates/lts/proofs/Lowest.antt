@@ -1,6 +1,6 @@
 -- The members of a set, taken off from the lowest. Assumes nothing.
 use mathlib.Core.Path.{_≡_, refl, sym, ap, ap₂, subst, _∙_}
-use mathlib.Core.List.{List, [], _∷_, map, List·Memᴰ, List·Memᴰ·head, List·Memᴰ·tail, List·Memᴰ·not-nil, List·Memᴰ·cases-cons}
+use mathlib.Core.List.{List, [], _∷_, _++_, map, List·Memᴰ, List·Memᴰ·head, List·Memᴰ·tail, List·Memᴰ·not-nil, List·Memᴰ·cases-cons}
 use mathlib.Core.Bool.{Bool, true, false, cond}
 use mathlib.Core.Logic.{_⊎_, inl, inr, _↔_}
 use Prim.Native.Nat.{ℕ, zero, suc, _+_, _-_, _*_, _/_, _%_, _^_, _≤_, _<_, min, max, zero-le}
@@ -12,6 +12,7 @@ use lib.ListN.{length, length-map}
 use lib.Dec.{eqb}
 use Rattle.std.proofs.shelf.Tests.{cases-eq}
 use Rattle.lts.specs.Sets.{In, has, membersFrom, members, Above, Ascending, Lists}
+use Rattle.lts.specs.Unions.{Lowest}
 use Rattle.lts.proofs.Membership.{half, has-in, in-has, members-below}
 
 odd : (n s : ℕ) → s % 2 ≡ 1 → trailingZeros (suc n) s ≡ 0
@@ -195,3 +196,27 @@ ones-members (suc n) s h =
 
 pub members-few : (s : ℕ) → s < 2 ^ 64 → length (members s) ≤ 64
 members-few s h = omega (arith, ones-members 64 s h, ones-le 64 s h)
+
+lowest-below : (s : ℕ) → 0 < s → s < 2 ^ 64 → trailingZeros 64 s < 64
+lowest-below s h l =
+    let e = members-lowest 64 s h l in
+    let m : List·Memᴰ (trailingZeros 64 s) (members s) = subst (List·Memᴰ (trailingZeros 64 s)) (sym e) (List·Memᴰ·head refl) in
+    members-below 64 s (trailingZeros 64 s) l (lists 64 s l .exact (trailingZeros 64 s) .0 m)
+
+-- the lowest member and what is left, as a program takes it off
+pub take-lowest : (s : ℕ) → 0 < s → s < 2 ^ 64 → Lowest s (trailingZeros 64 s) (bitAnd s (s - 1))
+take-lowest s h l = record {
+  taken = members-lowest 64 s h l;
+  below = lowest-below s h l;
+  fewer = omega (arith, and-le-r s (s - 1));
+}
+
+-- the members among n + 1 numbers: those among n, and the last
+pub members-last : (n k j s : ℕ) → j ≡ k + n → membersFrom k (suc n) s ≡ membersFrom k n s ++ cond (has j s) (j ∷ []) []
+unfolding membersFrom
+members-last zero k j s e = let q : j ≡ k = omega arith in rw q
+members-last (suc n) k j s e = front (has k s) (membersFrom (suc k) n s) (cond (has j s) (j ∷ []) []) (members-last n (suc k) j s (omega arith))
+  where
+    front : (b : Bool) {xs : List ℕ} (ys zs : List ℕ) → xs ≡ ys ++ zs → cond b (k ∷ xs) xs ≡ cond b (k ∷ ys) ys ++ zs
+    front true ys zs q = ap (λ (l : List ℕ). k ∷ l) q
+    front false ys zs q = q
