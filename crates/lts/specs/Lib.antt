@@ -1,3 +1,4 @@
 pub mod Sets
 pub mod System
 pub mod Traces
+pub mod Order

@@ -1,0 +1,6 @@
+pub mod Truth
+pub mod Search
+pub mod Laws
+pub mod Runs
+pub mod Cycles
+pub mod OneWay

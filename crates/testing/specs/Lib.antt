@@ -1,0 +1,4 @@
+pub mod Testing
+pub mod Distinguish
+pub mod Splits
+pub mod Theorems

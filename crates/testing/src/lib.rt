@@ -1,0 +1,3 @@
+// Testing: why a trace splits two systems, and the theorems that tie traces to tests.
+pub mod ground;
+pub mod theorems;

@@ -1,0 +1,1 @@
+// The theorems of testing, each the contract of a call.
