@@ -4,3 +4,4 @@ pub mod Laws
 pub mod Runs
 pub mod Cycles
 pub mod OneWay
+pub mod Ladder

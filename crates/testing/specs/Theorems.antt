@@ -93,6 +93,6 @@ SettleTest = (m : System) → Lawful m → (s : List ℕ) → Actions s → Must
 abbrev pub Answers : System → List ℕ → ℕ → Type 0
 Answers m s O = (A : ℕ) → Acceptance m s A → (a : ℕ) × In a A × In a O
 
--- that of Offer must pass with what is convergent along the trace, if every stable state after it has an action of the set, and only then.
+-- that of Offer must pass with what is convergent along it and, after it, always has an action of the set.
 abbrev pub OfferTest : Type 0
-OfferTest = (m : System) → Lawful m → (s : List ℕ) → Actions s → (O : ℕ) → Convergent m s → Must m (offerTest s O) ↔ Answers m s O
+OfferTest = (m : System) → Lawful m → (s : List ℕ) → Actions s → (O : ℕ) → Must m (offerTest s O) ↔ (Convergent m s × Answers m s O)
