@@ -5,3 +5,4 @@ pub mod Runs
 pub mod Cycles
 pub mod OneWay
 pub mod Ladder
+pub mod Decide
