@@ -110,7 +110,7 @@ module _ (m : System) (lawful : Lawful m) (s : List ℕ) where
     )
   ]
 
-  minimal-dec : (A : ℕ) → Dec (Minimal m s A)
+  pub minimal-dec : (A : ℕ) → Dec (Minimal m s A)
   minimal-dec A = elim (acceptance-dec A) [
     | no f ↦ no (λ h. f (h .member))
     | yes acc ↦

@@ -6,3 +6,5 @@ pub mod Cycles
 pub mod OneWay
 pub mod Ladder
 pub mod Decide
+pub mod Families
+pub mod SameTraces
