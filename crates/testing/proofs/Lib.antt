@@ -8,3 +8,5 @@ pub mod Ladder
 pub mod Decide
 pub mod Families
 pub mod SameTraces
+pub mod Apart
+pub mod OneGround
