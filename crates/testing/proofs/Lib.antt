@@ -10,3 +10,4 @@ pub mod Families
 pub mod SameTraces
 pub mod Apart
 pub mod OneGround
+pub mod OfferRule

@@ -2,3 +2,4 @@ pub mod Testing
 pub mod Distinguish
 pub mod Splits
 pub mod Theorems
+pub mod Rule

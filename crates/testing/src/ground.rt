@@ -18,3 +18,10 @@ pub enum Ground {
     Settle,
     Offer(ActionSet),
 }
+
+// A ground on which a trace splits two systems, and the system that passes the distinguishing test.
+#[derive(Clone, Copy, PartialEq, Eq, Debug)]
+pub struct Split {
+    pub ground: Ground,
+    pub passer: Side,
+}
