@@ -53,7 +53,7 @@ module _ (l r : System) (ll : Lawful l) (lr : Lawful r) (s : List ℕ) (actions 
   offer-apart convergent O (S, low, e) =
       let bare = low .holds in
       let none : ((A : ℕ) → Acceptance l s A → ¬ Subset A S) = λ A acc sub.
-        (let b = minimal-within l ll s A acc in bare .free (b .0) (b .1) (λ k i. sub k (b .2 k i))) in
+      (let b = minimal-within l ll s A acc in bare .free (b .0) (b .1) (λ k i. sub k (b .2 k i))) in
       subst (λ (Q : ℕ). Must l (offerTest s Q) × (¬ Must r (offerTest s Q))) (sym e) (
         offer-test l ll s actions (others S) .1 (convergent, bare-answers l ll s S none),
         λ h. let a = offer-test r lr s actions (others S) .0 h .1 S (bare .minimal .member) in others-out S (a .0) (a .2) (a .1),
@@ -99,7 +99,7 @@ alike-passes l r alike s (Offer O) Right = alike (testOf (Offer O) s) (test-lawf
 pub tests-and-traces : TestsAndTraces
 tests-and-traces l r ll lr = (
   λ alike s actions h.
-    let t = sound-no l r ll lr s (h .0) (h .1) (h .2) in
-    t .fails (alike-passes l r alike s (h .0) (h .1) (t .passes)),
+      let t = sound-no l r ll lr s (h .0) (h .1) (h .2) in
+      t .fails (alike-passes l r alike s (h .0) (h .1) (t .passes)),
   sound-yes l r ll lr,
 )

@@ -69,10 +69,10 @@ module _ (m : System) (lawful : Lawful m) where
   path-dec [] p q b = map-dec (λ h. hidden-path m (h .1) done) silent-run (some-walk-dec (m .hidden) (m .count) (hidden-in m lawful) p q b)
   path-dec (a ∷ s) p q b = map-dec (λ h. hidden-path m (h .1 .0 .1) (action (h .1 .1 .1 .0) (h .1 .1 .1 .1))) first
       (dec-below (Onward p a s q)
-        (λ p′. and-dec (some-walk-dec (m .hidden) (m .count) (hidden-in m lawful) p p′ b) (λ h.
-          dec-below (λ r. Visible m p′ a r × Path m r s q)
-            (λ r. and-dec (ℕ-discrete _ 1) (λ v. path-dec s r q (visible-in m lawful p′ a r v))) (m .count) (λ r h. visible-in m lawful p′ a r (h .0))))
-        (m .count) (λ p′ h. run-below (h .0 .1) b))
+      (λ p′. and-dec (some-walk-dec (m .hidden) (m .count) (hidden-in m lawful) p p′ b) (λ h.
+      dec-below (λ r. Visible m p′ a r × Path m r s q)
+      (λ r. and-dec (ℕ-discrete _ 1) (λ v. path-dec s r q (visible-in m lawful p′ a r v))) (m .count) (λ r h. visible-in m lawful p′ a r (h .0))))
+      (m .count) (λ p′ h. run-below (h .0 .1) b))
 
   pub after-dec : (s : List ℕ) (q : ℕ) → Dec (After m s q)
   after-dec s q = path-dec s (m .start) q (lawful .starts)
@@ -90,8 +90,8 @@ module _ (m : System) (lawful : Lawful m) (s : List ℕ) where
       (λ h. record { state = h .0; after = h .1 .0; stable = h .1 .1 .0; offers = h .1 .1 .1 })
       (λ a. (a .state, (a .after, (a .stable, a .offers))))
       (dec-below (λ q. After m s q × (Stable m q × (offer m q ≡ A)))
-        (λ q. and-dec (after-dec m lawful s q) (λ w. and-dec (ℕ-discrete _ 0) (λ t. ℕ-discrete _ A)))
-        (m .count) (λ q h. after-below m lawful s q (h .0)))
+      (λ q. and-dec (after-dec m lawful s q) (λ w. and-dec (ℕ-discrete _ 0) (λ t. ℕ-discrete _ A)))
+      (m .count) (λ q h. after-below m lawful s q (h .0)))
 
   -- each acceptance set contains a minimal one: the lowest number among those in it
   pub minimal-within : (A : ℕ) → Acceptance m s A → (B : ℕ) × Minimal m s B × Subset B A
@@ -114,11 +114,11 @@ module _ (m : System) (lawful : Lawful m) (s : List ℕ) where
   minimal-dec A = elim (acceptance-dec A) [
     | no f ↦ no (λ h. f (h .member))
     | yes acc ↦
-      (let b = minimal-within A acc in
-       elim (ℕ-discrete (b .0) A) [
-         | yes e ↦ yes (subst (λ (B : ℕ). Minimal m s B) e (b .1))
-         | no d ↦ no (λ h. d (h .least (b .0) (b .1 .member) (b .2)))
-       ])
+        (let b = minimal-within A acc in
+        elim (ℕ-discrete (b .0) A) [
+          | yes e ↦ yes (subst (λ (B : ℕ). Minimal m s B) e (b .1))
+          | no d ↦ no (λ h. d (h .least (b .0) (b .1 .member) (b .2)))
+        ])
   ]
 
   -- whether a minimal acceptance set is part of S

@@ -64,10 +64,13 @@ module _ (l r : System) (ll : Lawful l) (lr : Lawful r) (s : List ℕ) where
   pub find-bare : ((S : ℕ) × Lowest (Bare l r s) S) ⊎ (((S : ℕ) → ¬ Bare l r s S) × Covers l r s)
   find-bare = elim (look (Bare l r s) bare-dec (2 ^ 32)) [
     | inl f ↦ inl (f .0, record { holds = f .2; lowest = λ R b. elim (decLt R (f .0)) [ yes lower ↦ absurd (f .3 R lower b) | no n ↦ omega arith ] })
-    | inr k ↦ inr (λ S b. k S (minimal-below l s S (b .minimal)) b, λ A h. elim (covers-dec r lr s A) [
-      | yes c ↦ (c .0, c .1 .0, c .1 .1)
-      | no g ↦ absurd (k A (minimal-below l s A h) (record { minimal = h; free = λ B b sub. g (B, (b, sub)) }))
-    ])
+    | inr k ↦ inr (
+      λ S b. k S (minimal-below l s S (b .minimal)) b,
+      λ A h. elim (covers-dec r lr s A) [
+        | yes c ↦ (c .0, c .1 .0, c .1 .1)
+        | no g ↦ absurd (k A (minimal-below l s A h) (record { minimal = h; free = λ B b sub. g (B, (b, sub)) }))
+      ],
+    )
   ]
 
 module _ (l r : System) (ll : Lawful l) (lr : Lawful r) (s : List ℕ) where

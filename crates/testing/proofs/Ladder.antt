@@ -72,9 +72,9 @@ module _ (s : List ℕ) (f : ℕ → Bool) (O : ℕ) where
       elim (or-T (leads s i a) (eqb i (length s) && has a O) (b .1)) [
         | inl l ↦ (let c = leads-below s i a l in (ltb→lt a 32 (b .0), omega arith, inl l))
         | inr o ↦
-          (let d = and-T (eqb i (length s)) (has a O) o in
-           let e = eqb→eq i (length s) (d .0) in
-           (ltb→lt a 32 (b .0), omega arith, inr (e, eqb→eq _ 1 (d .1))))
+            (let d = and-T (eqb i (length s)) (has a O) o in
+            let e = eqb→eq i (length s) (d .0) in
+            (ltb→lt a 32 (b .0), omega arith, inr (e, eqb→eq _ 1 (d .1))))
       ]
 
   unseen-is : (i : ℕ) → T (unseen i) → (i ≤ length s) × T (f i)
@@ -153,9 +153,9 @@ module _ (s : List ℕ) (f : ℕ → Bool) (O : ℕ) where
       let v = visible-of i a y j in
       elim (v .1) [
         | inl l ↦
-          (let lower = leads-below s i a l in
-           let c = climbed r (omega arith) in
-           (ap (λ (u : List ℕ). a ∷ u) (c .0 ∙ ap (λ (x : ℕ). drop x s) (v .0)) ∙ sym (leads-drop s i a l), c .1, omega arith))
+            (let lower = leads-below s i a l in
+            let c = climbed r (omega arith) in
+            (ap (λ (u : List ℕ). a ∷ u) (c .0 ∙ ap (λ (x : ℕ). drop x s) (v .0)) ∙ sym (leads-drop s i a l), c .1, omega arith))
         | inr o ↦ absurd (here r (last-passes y (v .0 ∙ ap suc (o .0))))
       ]
 
@@ -208,8 +208,8 @@ module _ (s : List ℕ) where
       let v = visible-of s atEnd 0 i a y j in
       elim (v .1) [
         | inl l ↦
-          (let lower = leads-below s i a l in
-           ap (λ (u : List ℕ). a ∷ u) (reached r e (omega arith) ∙ ap (λ (x : ℕ). drop x s) (v .0)) ∙ sym (leads-drop s i a l))
+            (let lower = leads-below s i a l in
+            ap (λ (u : List ℕ). a ∷ u) (reached r e (omega arith) ∙ ap (λ (x : ℕ). drop x s) (v .0)) ∙ sym (leads-drop s i a l))
         | inr o ↦ absurd (not-empty a 0 (o .1) refl)
       ]
 
@@ -223,32 +223,31 @@ pub reach-test : ReachTest
 unfolding ladder
 reach-test m lawful s = (
   λ h.
-    let t = passing-end m (reachTest s) (h .run) (h .visits) in
-    let a = apart m (reachTest s) Any (t .3) in
-    let e = reached s (a .2 .1) (passing-last s (atEnd s) 0 (t .2) (t .4)) zero-le in
-    (t .1, subst (λ (u : List ℕ). After m u (t .1)) e (a .1)),
+      let t = passing-end m (reachTest s) (h .run) (h .visits) in
+      let a = apart m (reachTest s) Any (t .3) in
+      let e = reached s (a .2 .1) (passing-last s (atEnd s) 0 (t .2) (t .4)) zero-le in
+      (t .1, subst (λ (u : List ℕ). After m u (t .1)) e (a .1)),
   λ h.
-    let up = climb s (atEnd s) 0 s 0 (path-actions m lawful (h .1)) refl zero-le in
-    let all = then-alone s up (of-hidden s (atEnd s) 0 (length s) (le-refl _) (eqb-refl (length s))) in
-    let c = combine m (reachTest s) Any (h .1) (all .0) 0 (suc (length s)) (all .1) in
-    record {
-      steps = c .0;
-      state = h .0;
-      at = suc (length s);
-      run = whole m (reachTest s) Any (c .2);
-      visits = end-visits m (reachTest s) (c .2) (last-passes s (atEnd s) 0 (suc (length s)) refl);
-    },
+      let up = climb s (atEnd s) 0 s 0 (path-actions m lawful (h .1)) refl zero-le in
+      let all = then-alone s up (of-hidden s (atEnd s) 0 (length s) (le-refl _) (eqb-refl (length s))) in
+      let c = combine m (reachTest s) Any (h .1) (all .0) 0 (suc (length s)) (all .1) in
+      record {
+        steps = c .0;
+        state = h .0;
+        at = suc (length s);
+        run = whole m (reachTest s) Any (c .2);
+        visits = end-visits m (reachTest s) (c .2) (last-passes s (atEnd s) 0 (suc (length s)) refl);
+      },
 )
 
 -- the test of Settle
 pub settle-test : SettleTest
 unfolding ladder
 settle-test m lawful s actions =
-    let f : ℕ → Bool = λ i. true in
-    (
+    let f : ℕ → Bool = λ i. true in (
       must-converge s f 0 m actions,
       λ convergent. must-by s f 0 m lawful convergent (λ k q y u w t stuck.
-        stuck q (suc (length s)) (by-test (of-hidden s f 0 y (climbed s f 0 t zero-le .1) tt))),
+          stuck q (suc (length s)) (by-test (of-hidden s f 0 y (climbed s f 0 t zero-le .1) tt))),
     )
 
 -- the test of Offer
@@ -270,14 +269,14 @@ module _ (m : System) (lawful : Lawful m) (s : List ℕ) (O : ℕ) where
       let c = climbed s below O moves zero-le in
       elim (ℕ-discrete y (length s)) [
         | yes e ↦
-          (let all : t ≡ s = sym (append-nil t) ∙ ap (λ (u : List ℕ). t ++ u) (sym (drop-length s) ∙ ap (λ (i : ℕ). drop i s) (sym e)) ∙ c .0 in
-           let a =
-             answers (offer m q)
-             (record { state = q; after = subst (λ (u : List ℕ). After m u q) all w; stable = stuck-stable m (offerTest s O) q y stuck; offers = refl })
-           in
-           let b = some-member (m .visible q (a .0)) (offered m q (a .0) (a .1)) in
-           let up = of-offer s below O (a .0) (offer-below m q (a .0) (a .1)) (a .2) in
-           stuck (b .0) (suc (length s)) (by-both (a .0) (b .1) (subst (λ (x : ℕ). Visible (offerTest s O .system) x (a .0) (suc (length s))) (sym e) up)))
+            (let all : t ≡ s = sym (append-nil t) ∙ ap (λ (u : List ℕ). t ++ u) (sym (drop-length s) ∙ ap (λ (i : ℕ). drop i s) (sym e)) ∙ c .0 in
+            let a =
+            answers (offer m q)
+            (record { state = q; after = subst (λ (u : List ℕ). After m u q) all w; stable = stuck-stable m (offerTest s O) q y stuck; offers = refl })
+            in
+            let b = some-member (m .visible q (a .0)) (offered m q (a .0) (a .1)) in
+            let up = of-offer s below O (a .0) (offer-below m q (a .0) (a .1)) (a .2) in
+            stuck (b .0) (suc (length s)) (by-both (a .0) (b .1) (subst (λ (x : ℕ). Visible (offerTest s O .system) x (a .0) (suc (length s))) (sym e) up)))
         | no d ↦ (let b = c .1 in stuck q (suc (length s)) (by-test (of-hidden s below O y b (lt→ltb y (length s) (omega arith)))))
       ]
 

@@ -11,3 +11,5 @@ pub mod SameTraces
 pub mod Apart
 pub mod OneGround
 pub mod OfferRule
+pub mod Judged
+pub mod SetLists

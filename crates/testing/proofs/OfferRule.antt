@@ -76,6 +76,7 @@ first-bare (x ∷ xs) ys a = at-cond (Found (x ∷ xs) ys) (covered x ys) _ _
         | inr h ↦ f .lowest R (record { member = h; free = b .free })
       ];
     }
+
     lowest : (R : ℕ) → Member R (x ∷ xs) → x ≤ R
     lowest R (inl e) = omega arith
     lowest R (inr h) = omega (arith, above-member x R xs (a .0) h)
@@ -100,8 +101,8 @@ ascending-same (x ∷ xs) (y ∷ ys) a b f g =
     let e = heads in
     ap₂ {B = List ℕ} {C = List ℕ} (λ u v. u ∷ v) e
     (ascending-same xs ys (a .1) (b .1)
-      (λ z h. elim (f z (inr h)) [ inl p ↦ (let c = above-member x z xs (a .0) h in absurd (omega arith)) | inr m ↦ m ])
-      (λ z h. elim (g z (inr h)) [ inl p ↦ (let c = above-member y z ys (b .0) h in absurd (omega arith)) | inr m ↦ m ]))
+    (λ z h. elim (f z (inr h)) [ inl p ↦ (let c = above-member x z xs (a .0) h in absurd (omega arith)) | inr m ↦ m ])
+    (λ z h. elim (g z (inr h)) [ inl p ↦ (let c = above-member y z ys (b .0) h in absurd (omega arith)) | inr m ↦ m ]))
   where
     heads : x ≡ y
     heads = elim (f x (inl refl)) [
@@ -120,7 +121,7 @@ moved xs ys apart f g z h =
     let e : d .0 ≡ z = apart (d .0) z (d .1) h (λ k i. c .2 k (d .2 k i)) in
     subst (λ (w : ℕ). Member w ys) (same-members (c .0) z (c .2) (subst (λ (w : ℕ). Subset w (c .0)) e (d .2))) (c .1)
 
-some≢none : {A : Type 0} {x : A} → _≡_ {A = Option A} (Some x) None → ⊥
+pub some≢none : {A : Type 0} {x : A} → _≡_ {A = Option A} (Some x) None → ⊥
 some≢none e = let z : _≡_ {A = ℕ} 0 1 = cc in omega arith
 
 pub rule-differs : RuleDiffers
@@ -128,8 +129,10 @@ rule-differs xs ys a b c d = by (firstBare xs ys) (firstBare ys xs) (first-bare 
   where
     found-same : {S : ℕ} → Lowest (BareIn xs ys) S → ¬ (xs ≡ ys)
     found-same {S} f e = f .holds .free S (subst (λ (l : List ℕ). Member S l) e (f .holds .member)) (λ k i. i)
+
     found-back : {S : ℕ} → Lowest (BareIn ys xs) S → ¬ (xs ≡ ys)
     found-back {S} f e = f .holds .free S (subst (λ (l : List ℕ). Member S l) (sym e) (f .holds .member)) (λ k i. i)
+
     by : (o p : Option ℕ) → Found xs ys o → Found ys xs p → byOffer o p ≡ None ↔ xs ≡ ys
     by (Some S) p f g = (λ e. absurd (some≢none e), λ e. absurd (found-same f e))
     by None (Some S) f g = (λ e. absurd (some≢none e), λ e. absurd (found-back g e))
@@ -172,8 +175,7 @@ module _ (l r : System) (s xs ys : List ℕ) (both : BothConvergent l r s) (lx :
 
 pub rule-splits : RuleSplits
 rule-splits l r s xs ys both lx ly v =
-    let says = rule-law xs ys (lx .ascending) (ly .ascending) in
-    (
+    let says = rule-law xs ys (lx .ascending) (ly .ascending) in (
       λ e. says-split l r s xs ys both lx ly v (subst (RuleSays xs ys) e says),
       λ b. split-says l r s xs ys both lx ly v b (offerRule xs ys) says,
     )

@@ -76,12 +76,12 @@ module _ (l r : System) (e : Tester) (ll : Lawful l) (lr : Lawful r) (refines : 
   long-case : {q y : ℕ} → Within r e (Fails r e) (r .count + h .bound * suc (r .count)) (r .start) (e .system .start) q y → ⊥
   long-case w = elim (sorted r e (Fails r e) lr w (h .bound) (r .count) 0 (r .start) stay (lr .starts) (lr .starts) (omega arith) (le-refl _)) [
     | inl t ↦
-      (let can = refines (t .0) .does (t .1, t .2) in
-       let c = combine l e (Fails l e) (can .1) (t .3 .0) (e .system .start) (t .3 .1) (t .3 .3) in
-       not-long l e h (c .2) (le-trans (t .3 .2) (c .1)))
+        (let can = refines (t .0) .does (t .1, t .2) in
+        let c = combine l e (Fails l e) (can .1) (t .3 .0) (e .system .start) (t .3 .1) (t .3 .3) in
+        not-long l e h (c .2) (le-trans (t .3 .2) (c .1)))
     | inr t ↦
-      (let there = convergent-along l e h (t .4 .2) in
-       refines (t .0) .converges (t .1, t .2) there (t .0) [] (append-nil (t .0)) (t .1) (t .2) (t .3))
+        (let there = convergent-along l e h (t .4 .2) in
+        refines (t .0) .converges (t .1, t .2) there (t .0) [] (append-nil (t .0)) (t .1) (t .2) (t .3))
   ]
 
   -- a run of r that never passes and is stuck

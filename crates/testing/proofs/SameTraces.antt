@@ -27,9 +27,9 @@ same-refines l r lr same s = record {
   does = same s .does .1;
   converges = λ c. same s .converges (same s .does .1 c) .0;
   accepts = λ cl B acc.
-    (let cr = same s .converges (same s .does .1 (acc .state, acc .after)) .0 cl in
-     let b = minimal-within r lr s B acc in
-     (b .0, same s .accepts cl cr (b .0) .1 (b .1) .member, b .2));
+      (let cr = same s .converges (same s .does .1 (acc .state, acc .after)) .0 cl in
+      let b = minimal-within r lr s B acc in
+      (b .0, same s .accepts cl cr (b .0) .1 (b .1) .member, b .2));
 }
 
 -- each minimal set of r contains an acceptance set of l, and so a minimal one

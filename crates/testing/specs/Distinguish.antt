@@ -52,8 +52,16 @@ testOf Reach s = reachTest s
 testOf Settle s = settleTest s
 testOf (Offer O) s = offerTest s (O .bits)
 
--- passing it: may on the ground Reach, must on the others
+-- a test is passed by must on the grounds Settle and Offer, by may on Reach
+abbrev pub byMust : Ground → Bool
+byMust Reach = false
+byMust Settle = true
+byMust (Offer O) = true
+
+abbrev pub PassesBy : Bool → System → Tester → Type 0
+PassesBy true m e = Must m e
+PassesBy false m e = May m e
+
+-- the system passes the distinguishing test of the ground
 abbrev pub Passes : Ground → System → Tester → Type 0
-Passes Reach m e = May m e
-Passes Settle m e = Must m e
-Passes (Offer O) m e = Must m e
+Passes g m e = PassesBy (byMust g) m e

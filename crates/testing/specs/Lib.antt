@@ -3,3 +3,4 @@ pub mod Distinguish
 pub mod Splits
 pub mod Theorems
 pub mod Rule
+pub mod Judging

@@ -1,0 +1,57 @@
+-- How a trace splits two systems, worked out from what it shows of each. Assumes nothing.
+use mathlib.Core.Path.{_≡_}
+use mathlib.Core.Logic.{_↔_}
+use mathlib.Core.List.{List, [], _∷_}
+use mathlib.Core.Bool.{Bool, true, false}
+use Prim.Native.Nat.{ℕ}
+use lib.Dec.{T}
+use Rattle.std.specs.declared.option.Option.{Option}
+use Rattle.std.specs.declared.option.Option.the-variants.{None, Some}
+use Rattle.lts.specs.System.{System}
+use Rattle.lts.specs.Traces.{CanDo, Convergent}
+use Rattle.lts.specs.declared.sets.ActionSet.{ActionSet}
+use Rattle.testing.specs.declared.ground.Side.{Side}
+use Rattle.testing.specs.declared.ground.Side.the-variants.{Left, Right}
+use Rattle.testing.specs.declared.ground.Ground.{Ground}
+use Rattle.testing.specs.declared.ground.Ground.the-variants.{Reach, Settle, Offer}
+use Rattle.testing.specs.declared.ground.Split.{Split}
+use Rattle.testing.specs.Splits.{Splits}
+use Rattle.testing.specs.Rule.{Listed, offerRule}
+
+-- the sets of a list, as numbers
+unfoldable pub numbers : List ActionSet → List ℕ
+numbers [] = []
+numbers (x ∷ xs) = x .bits ∷ numbers xs
+
+-- a set that may have been found, as a number
+abbrev pub number : Option ActionSet → Option ℕ
+number None = None
+number (Some x) = Some (x .bits)
+
+abbrev pub splitOn : Ground → Side → Option Split
+splitOn g p = Some (record { ground = g; passer = p })
+
+-- where both can do the trace: whether each is convergent along it, and the minimal sets
+abbrev pub byConvergence : Bool → Bool → List ℕ → List ℕ → Option Split
+byConvergence true true xs ys = offerRule xs ys
+byConvergence true false xs ys = splitOn Settle Left
+byConvergence false true xs ys = splitOn Settle Right
+byConvergence false false xs ys = None
+
+-- whether each can do the trace, whether each is convergent along it, and the minimal sets
+abbrev pub splitRule : Bool → Bool → Bool → Bool → List ℕ → List ℕ → Option Split
+splitRule true true cl cr xs ys = byConvergence cl cr xs ys
+splitRule true false cl cr xs ys = splitOn Reach Left
+splitRule false true cl cr xs ys = splitOn Reach Right
+splitRule false false cl cr xs ys = None
+
+-- the trace s shows this of m: whether m can do it, whether it is convergent along it and, if so, its minimal acceptance sets
+pub record Shows (m : System) (s : List ℕ) (can convergent : Bool) (xs : List ℕ) : Type 0 where
+  pub does : T can ↔ CanDo m s
+  pub converges : T convergent ↔ Convergent m s
+  pub minimal : T convergent → Listed m s xs
+
+-- What is worked out from what a trace shows of two systems is how it splits them.
+abbrev pub Judges : Type 0
+Judges = (l r : System) (s : List ℕ) (dl dr cl cr : Bool) (xs ys : List ℕ) → Shows l s dl cl xs → Shows r s dr cr ys
+    → (v : Split) → splitRule dl dr cl cr xs ys ≡ Some v ↔ Splits l r s (v .ground) (v .passer)

@@ -1,1 +1,0 @@
-// The theorems of testing, each the contract of a call.
