@@ -52,13 +52,16 @@ module _ (l r : System) (s : List ℕ) where
   none-converge c d f g (Offer O) Left b = f (b .0 .left-convergent)
   none-converge c d f g (Offer O) Right b = f (b .0 .left-convergent)
 
-pub judges : Judges
-judges l r s true true true true xs ys a b =
+by-flags : (l r : System) (s : List ℕ) (dl dr cl cr : Bool) (xs ys : List ℕ) → Shows l s dl cl xs → Shows r s dr cr ys → Tells l r s (splitRule dl dr cl cr xs ys)
+by-flags l r s true true true true xs ys a b =
     let both : BothConvergent l r s = record { left = a .does .0 tt; right = b .does .0 tt; left-convergent = a .converges .0 tt; right-convergent = b .converges .0 tt } in
     rule-splits l r s xs ys both (a .minimal tt) (b .minimal tt)
-judges l r s true true true false xs ys a b = tells-split l r s Settle Left (a .does .0 tt, b .does .0 tt, a .converges .0 tt, b .converges .1)
-judges l r s true true false true xs ys a b = tells-split l r s Settle Right (a .does .0 tt, b .does .0 tt, b .converges .0 tt, a .converges .1)
-judges l r s true true false false xs ys a b = tells-none l r s (none-converge l r s (a .does .0 tt) (b .does .0 tt) (a .converges .1) (b .converges .1))
-judges l r s true false cl cr xs ys a b = tells-split l r s Reach Left (a .does .0 tt, b .does .1)
-judges l r s false true cl cr xs ys a b = tells-split l r s Reach Right (b .does .0 tt, a .does .1)
-judges l r s false false cl cr xs ys a b = tells-none l r s (none-do l r s (a .does .1) (b .does .1))
+by-flags l r s true true true false xs ys a b = tells-split l r s Settle Left (a .does .0 tt, b .does .0 tt, a .converges .0 tt, b .converges .1)
+by-flags l r s true true false true xs ys a b = tells-split l r s Settle Right (a .does .0 tt, b .does .0 tt, b .converges .0 tt, a .converges .1)
+by-flags l r s true true false false xs ys a b = tells-none l r s (none-converge l r s (a .does .0 tt) (b .does .0 tt) (a .converges .1) (b .converges .1))
+by-flags l r s true false cl cr xs ys a b = tells-split l r s Reach Left (a .does .0 tt, b .does .1)
+by-flags l r s false true cl cr xs ys a b = tells-split l r s Reach Right (b .does .0 tt, a .does .1)
+by-flags l r s false false cl cr xs ys a b = tells-none l r s (none-do l r s (a .does .1) (b .does .1))
+
+pub judges : Judges
+judges l r s x y = by-flags l r s (x .does) (y .does) (x .convergent) (y .convergent) _ _

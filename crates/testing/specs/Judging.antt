@@ -5,6 +5,7 @@ use mathlib.Core.List.{List, [], _∷_}
 use mathlib.Core.Bool.{Bool, true, false}
 use Prim.Native.Nat.{ℕ}
 use lib.Dec.{T}
+use denote.Ref.{now}
 use Rattle.std.specs.declared.option.Option.{Option}
 use Rattle.std.specs.declared.option.Option.the-variants.{None, Some}
 use Rattle.lts.specs.System.{System}
@@ -15,6 +16,7 @@ use Rattle.testing.specs.declared.ground.Side.the-variants.{Left, Right}
 use Rattle.testing.specs.declared.ground.Ground.{Ground}
 use Rattle.testing.specs.declared.ground.Ground.the-variants.{Reach, Settle, Offer}
 use Rattle.testing.specs.declared.ground.Split.{Split}
+use Rattle.testing.specs.declared.ground.Shown.{Shown}
 use Rattle.testing.specs.Splits.{Splits}
 use Rattle.testing.specs.Rule.{Listed, offerRule}
 
@@ -45,13 +47,20 @@ splitRule true false cl cr xs ys = splitOn Reach Left
 splitRule false true cl cr xs ys = splitOn Reach Right
 splitRule false false cl cr xs ys = None
 
+-- how a trace that shows this of two systems splits them, if it does
+abbrev pub told : Shown → Shown → Option Split
+told l r = splitRule (l .does) (r .does) (l .convergent) (r .convergent) (numbers (now (l .minimal))) (numbers (now (r .minimal)))
+
 -- the trace s shows this of m: whether m can do it, whether it is convergent along it and, if so, its minimal acceptance sets
 pub record Shows (m : System) (s : List ℕ) (can convergent : Bool) (xs : List ℕ) : Type 0 where
   pub does : T can ↔ CanDo m s
   pub converges : T convergent ↔ Convergent m s
   pub minimal : T convergent → Listed m s xs
 
--- What is worked out from what a trace shows of two systems is how it splits them.
+abbrev pub ShownBy : System → List ℕ → Shown → Type 0
+ShownBy m s x = Shows m s (x .does) (x .convergent) (numbers (now (x .minimal)))
+
+-- What is told from what a trace shows of two systems is how it splits them.
 abbrev pub Judges : Type 0
-Judges = (l r : System) (s : List ℕ) (dl dr cl cr : Bool) (xs ys : List ℕ) → Shows l s dl cl xs → Shows r s dr cr ys
-    → (v : Split) → splitRule dl dr cl cr xs ys ≡ Some v ↔ Splits l r s (v .ground) (v .passer)
+Judges = (l r : System) (s : List ℕ) (x y : Shown) → ShownBy l s x → ShownBy r s y
+    → (v : Split) → told x y ≡ Some v ↔ Splits l r s (v .ground) (v .passer)

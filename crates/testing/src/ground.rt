@@ -25,3 +25,12 @@ pub struct Split {
     pub ground: Ground,
     pub passer: Side,
 }
+
+// What a trace shows of one system: whether it can do it, whether it is convergent along it and, if so, its minimal acceptance sets after it in
+// rising order.
+#[derive(Clone, Copy)]
+pub struct Shown<'a> {
+    pub does: bool,
+    pub convergent: bool,
+    pub minimal: &'a [ActionSet],
+}

@@ -5,8 +5,9 @@ ghost use Rattle.std.specs.Options.{isSome};
 ghost use Rattle.testing.specs.Distinguish.{others as othersOf};
 ghost use Rattle.testing.specs.Rule.{within, covered as coveredIn, firstBare, offerSplit, offerRule, RuleLaw, RuleDiffers, RuleSplits};
 ghost use Rattle.testing.specs.Theorems.{RuleFinds, OneGround, OneFirst, OneWay, BothWays, TwoWay, SplitLaw, SoundYes, TestsAndTraces};
-ghost use Rattle.testing.specs.Judging.{numbers, number, splitRule, Judges};
+ghost use Rattle.testing.specs.Judging.{numbers, number, splitOn, byConvergence, told, Judges};
 use crate::ground::Ground;
+use crate::ground::Shown;
 use crate::ground::Side;
 use crate::ground::Split;
 use lts::sets::ActionSet;
@@ -72,47 +73,39 @@ fn by_offer(left: &[ActionSet], right: &[ActionSet]) -> Option<Split>
     None
 }
 
-// What a trace shows of one system: whether it can do it, whether it is convergent along it and, if so, its minimal acceptance sets after it in
-// rising order.
-#[derive(Clone, Copy)]
-pub struct Shown<'a> {
-    pub does: bool,
-    pub convergent: bool,
-    pub minimal: &'a [ActionSet],
+fn on(ground: Ground, passer: Side) -> Option<Split>
+    ensures { λ r. ⌜ r ≡ splitOn ground passer ⌝ }
+{
+    Some(Split { ground, passer })
+}
+
+// Where both can do the trace.
+fn by_convergence(left: Shown<'_>, right: Shown<'_>) -> Option<Split>
+    ensures { λ r. ⌜ r ≡ byConvergence (left .entry .convergent) (right .entry .convergent) (numbers (now (left .entry .minimal))) (numbers (now (right .entry .minimal))) ⌝ }
+{
+    match (left.convergent, right.convergent) {
+        (true, true) => by_offer(left.minimal, right.minimal),
+        (true, false) => on(Ground::Settle, Side::Left),
+        (false, true) => on(Ground::Settle, Side::Right),
+        (false, false) => None,
+    }
 }
 
 // The first ground on which the trace splits the two, and the passer; none if it does not split them.
 fn judged(left: Shown<'_>, right: Shown<'_>) -> Option<Split>
-    ensures { λ r. ⌜ r ≡ splitRule (left .entry .does) (right .entry .does) (left .entry .convergent) (right .entry .convergent) (numbers (now (left .entry .minimal))) (numbers (now (right .entry .minimal))) ⌝ }
+    ensures { λ r. ⌜ r ≡ told (left .entry) (right .entry) ⌝ }
 {
     match (left.does, right.does) {
-        (true, true) => match (left.convergent, right.convergent) {
-            (true, true) => by_offer(left.minimal, right.minimal),
-            (true, false) => Some(Split {
-                ground: Ground::Settle,
-                passer: Side::Left,
-            }),
-            (false, true) => Some(Split {
-                ground: Ground::Settle,
-                passer: Side::Right,
-            }),
-            (false, false) => None,
-        },
-        (true, false) => Some(Split {
-            ground: Ground::Reach,
-            passer: Side::Left,
-        }),
-        (false, true) => Some(Split {
-            ground: Ground::Reach,
-            passer: Side::Right,
-        }),
+        (true, true) => by_convergence(left, right),
+        (true, false) => on(Ground::Reach, Side::Left),
+        (false, true) => on(Ground::Reach, Side::Right),
         (false, false) => None,
     }
 }
 
 // How a trace splits two systems, from what it shows of each; none if it does not.
 pub fn split(left: Shown<'_>, right: Shown<'_>) -> Option<Split>
-    ensures value { λ r. ⌜ r ≡ splitRule (left .entry .does) (right .entry .does) (left .entry .convergent) (right .entry .convergent) (numbers (now (left .entry .minimal))) (numbers (now (right .entry .minimal))) ⌝ }
+    ensures value { λ r. ⌜ r ≡ told (left .entry) (right .entry) ⌝ }
     ensures judges { λ _. ⌜ Judges ⌝ }
     ensures rule { λ _. ⌜ RuleLaw ⌝ }
     ensures differs { λ _. ⌜ RuleDiffers ⌝ }
@@ -126,7 +119,7 @@ pub fn split(left: Shown<'_>, right: Shown<'_>) -> Option<Split>
 
 // Whether a trace shows the same of both systems, so that it does not split them. If every trace does, every test passes with both or with neither.
 pub fn agree(left: Shown<'_>, right: Shown<'_>) -> bool
-    ensures value { λ r. ⌜ r ≡ not (isSome (splitRule (left .entry .does) (right .entry .does) (left .entry .convergent) (right .entry .convergent) (numbers (now (left .entry .minimal))) (numbers (now (right .entry .minimal))))) ⌝ }
+    ensures value { λ r. ⌜ r ≡ not (isSome (told (left .entry) (right .entry))) ⌝ }
     ensures preorder { λ _. ⌜ OneWay ⌝ }
     ensures both { λ _. ⌜ BothWays ⌝ }
     ensures same { λ _. ⌜ TwoWay ⌝ }

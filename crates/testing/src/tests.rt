@@ -1,10 +1,10 @@
 // What splits, on sets worked out by hand.
 use crate::ground::Ground;
+use crate::ground::Shown;
 use crate::ground::Side;
 use crate::ground::Split;
 use crate::ground::SplitDebug;
 use crate::ground::SplitPartialEq;
-use crate::splitting::Shown;
 use crate::splitting::agree;
 use crate::splitting::split;
 use lts::sets::ActionSet;
