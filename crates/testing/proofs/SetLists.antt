@@ -17,9 +17,7 @@ use Rattle.lts.specs.Sets.{has, setOf}
 use Rattle.lts.specs.declared.sets.ActionSet.{ActionSet}
 use Rattle.lts.proofs.Membership.{in-zero, in-odd}
 use borrow.Author.Tests.{eq-eqb, ne-eqb}
-use Rattle.testing.specs.declared.ground.Side.the-variants.{Left, Right}
-use Rattle.testing.specs.declared.ground.Split.{Split}
-use Rattle.testing.specs.Rule.{within, covered, firstBare, offerSplit, byOffer}
+use Rattle.testing.specs.Rule.{within, covered, firstBare}
 use Rattle.testing.specs.Judging.{numbers}
 
 half : (s k : ℕ) → s / 2 ^ suc k ≡ s / 2 / 2 ^ k
@@ -53,16 +51,6 @@ bare-more ys l i h = ap (λ (xs : List ℕ). firstBare xs ys) (numbers-more l i 
 pub bare-none : (ys : List ℕ) (l : List ActionSet) (i : ℕ) → length l ≤ i → firstBare (numbers (drop i l)) ys ≡ None
 unfolding firstBare
 bare-none ys l i h = ap (λ (xs : List ℕ). firstBare xs ys) (numbers-none l i h)
-
--- what comes of the sets that were found
-pub from-left : (o p : Option ℕ) (S : ℕ) (v : Split) → Some S ≡ o → v ≡ offerSplit S Right → Some v ≡ byOffer o p
-from-left o p S v e f = subst (λ (x : Option ℕ). Some v ≡ byOffer x p) e (ap Some f)
-
-pub from-right : (o p : Option ℕ) (S : ℕ) (v : Split) → None ≡ o → Some S ≡ p → v ≡ offerSplit S Left → Some v ≡ byOffer o p
-from-right o p S v e f g = subst (λ (x : Option ℕ). Some v ≡ byOffer x p) e (subst (λ (y : Option ℕ). Some v ≡ byOffer None y) f (ap Some g))
-
-pub from-neither : (o p : Option ℕ) → None ≡ o → None ≡ p → None ≡ byOffer o p
-from-neither o p e f = subst (λ (x : Option ℕ). None ≡ byOffer x p) e (subst (λ (y : Option ℕ). None ≡ byOffer None y) f refl)
 
 -- the complement of a word of n bits: digit by digit
 digit : (S x y : ℕ) → x + (S / 2 + 1) ≡ y → cond (not (has 0 S)) 1 0 + 2 * x + (S + 1) ≡ 2 * y

@@ -3,7 +3,7 @@ ghost use mathlib.Core.Path.{_≡_};
 ghost use mathlib.Core.Bool.{not};
 ghost use Rattle.std.specs.Options.{isSome};
 ghost use Rattle.testing.specs.Distinguish.{others as othersOf};
-ghost use Rattle.testing.specs.Rule.{within, covered as coveredIn, firstBare, offerSplit, offerRule, RuleLaw, RuleDiffers, RuleSplits};
+ghost use Rattle.testing.specs.Rule.{within, covered as coveredIn, firstBare, offerSplit, byOffer, offerRule, RuleLaw, RuleDiffers, RuleSplits};
 ghost use Rattle.testing.specs.Theorems.{RuleFinds, OneGround, OneFirst, OneWay, BothWays, TwoWay, SplitLaw, SoundYes, TestsAndTraces};
 ghost use Rattle.testing.specs.Judging.{numbers, number, splitOn, byConvergence, told, Judges};
 use crate::ground::Ground;
@@ -60,17 +60,22 @@ fn offer_of(set: ActionSet, passer: Side) -> Split
     }
 }
 
+// The split by the sets found on either side, if any: the left one counts first.
+fn by_found(left: Option<ActionSet>, right: Option<ActionSet>) -> Option<Split>
+    ensures { λ r. ⌜ r ≡ byOffer (number left) (number right) ⌝ }
+{
+    match (left, right) {
+        (Some(set), _) => Some(offer_of(set, Side::Right)),
+        (None, Some(set)) => Some(offer_of(set, Side::Left)),
+        (None, None) => None,
+    }
+}
+
 // The lowest set on the left that contains none on the right or, failing that, the lowest on the right that contains none on the left.
 fn by_offer(left: &[ActionSet], right: &[ActionSet]) -> Option<Split>
     ensures { λ r. ⌜ r ≡ offerRule (numbers (now (left .entry))) (numbers (now (right .entry))) ⌝ }
 {
-    if let Some(set) = first_bare(left, right) {
-        return Some(offer_of(set, Side::Right));
-    }
-    if let Some(set) = first_bare(right, left) {
-        return Some(offer_of(set, Side::Left));
-    }
-    None
+    by_found(first_bare(left, right), first_bare(right, left))
 }
 
 fn on(ground: Ground, passer: Side) -> Option<Split>
@@ -117,6 +122,12 @@ pub fn split(left: Shown<'_>, right: Shown<'_>) -> Option<Split>
     judged(left, right)
 }
 
+fn agrees(left: Shown<'_>, right: Shown<'_>) -> bool
+    ensures { λ r. ⌜ r ≡ not (isSome (told (left .entry) (right .entry))) ⌝ }
+{
+    !judged(left, right).is_some()
+}
+
 // Whether a trace shows the same of both systems, so that it does not split them. If every trace does, every test passes with both or with neither.
 pub fn agree(left: Shown<'_>, right: Shown<'_>) -> bool
     ensures value { λ r. ⌜ r ≡ not (isSome (told (left .entry) (right .entry))) ⌝ }
@@ -127,5 +138,5 @@ pub fn agree(left: Shown<'_>, right: Shown<'_>) -> bool
     ensures yes { λ _. ⌜ SoundYes ⌝ }
     ensures exact { λ _. ⌜ TestsAndTraces ⌝ }
 {
-    judged(left, right).is_none()
+    agrees(left, right)
 }
