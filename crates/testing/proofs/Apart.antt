@@ -1,14 +1,14 @@
 -- The distinguishing test of a trace that splits two systems tells them apart. Assumes nothing.
-use mathlib.Core.Path.{_≡_, sym, subst}
+use mathlib.Core.Path.{sym, subst}
 use mathlib.Core.List.{List}
-use mathlib.Core.Bool.{Bool, not}
-use mathlib.Core.Logic.{_⊎_, inl, inr, _↔_}
+use mathlib.Core.Bool.{not}
+use mathlib.Core.Logic.{inl, inr}
 use Prim.Native.Nat.{ℕ, _<_}
 use native.Mathlib.Decide.{ℕ-discrete}
-use lib.Dec.{T, eqb→eq, T-not, not-T}
+use lib.Dec.{eqb→eq, T-not, not-T}
 use Rattle.lts.specs.Sets.{In, has, Subset}
 use Rattle.lts.specs.System.{System, Lawful, LawfulTester}
-use Rattle.lts.specs.Traces.{CanDo, Convergent, Acceptance}
+use Rattle.lts.specs.Traces.{Convergent, Acceptance}
 use Rattle.lts.specs.Order.{Actions}
 use Rattle.lts.proofs.Membership.{in-set, set-in}
 use Rattle.testing.specs.declared.ground.Side.{Side}
@@ -17,8 +17,8 @@ use Rattle.testing.specs.declared.ground.Ground.{Ground}
 use Rattle.testing.specs.declared.ground.Ground.the-variants.{Reach, Settle, Offer}
 use Rattle.testing.specs.Testing.{Must, Alike}
 use Rattle.testing.specs.Distinguish.{offerTest, others, testOf, Passes}
-use Rattle.testing.specs.Splits.{Bare, OfferFrom, Splits, NoSplit, passer, nonPasser}
-use Rattle.testing.specs.Theorems.{Answers, ToldApart, SoundNo, TestsAndTraces}
+use Rattle.testing.specs.Splits.{OfferFrom, Splits, passer, nonPasser}
+use Rattle.testing.specs.Theorems.{Answers, SoundNo, TestsAndTraces}
 use Rattle.testing.proofs.Truth.{eq-T}
 use Rattle.testing.proofs.Search.{look}
 use Rattle.testing.proofs.Laws.{path-actions, offer-below}

@@ -1,15 +1,13 @@
 -- What a trace shows of a lawful system can be decided: its states are finitely many. Assumes nothing.
 use mathlib.Core.Path.{_≡_, refl, sym, subst}
 use mathlib.Core.List.{List, [], _∷_}
-use mathlib.Core.Bool.{Bool, true, false, cond, not}
-use mathlib.Core.Logic.{_⊎_, inl, inr}
-use Prim.Native.Nat.{ℕ, zero, suc, _+_, _*_, _^_, _≤_, _<_}
-use native.Mathlib.Nat.{le-refl, pow-suc}
+use mathlib.Core.Logic.{inl, inr}
+use Prim.Native.Nat.{ℕ, zero, suc, _<_}
+use native.Mathlib.Nat.{le-refl}
 use native.Mathlib.Decide.{ℕ-discrete, decLt, map-dec}
 use native.Mathlib.Omega.{arith}
-use lib.Dec.{eqb}
 use lib.Bits.{bitAnd}
-use Rattle.lts.specs.Sets.{In, Subset, setOf}
+use Rattle.lts.specs.Sets.{In, Subset}
 use Rattle.lts.specs.System.{System, Lawful}
 use Rattle.lts.specs.Traces.{Visible, Path, done, silent, action, After, CanDo, Walk, stay, move, HiddenRun, Stable, offer, Acceptance, Minimal}
 use Rattle.lts.proofs.Membership.{same-members, subset-le, in-and, and-in}

@@ -1,10 +1,9 @@
 -- What is worked out from what a trace shows of two systems is how it splits them. Assumes nothing.
-use mathlib.Core.Path.{_≡_, refl, sym, subst}
+use mathlib.Core.Path.{_≡_, sym, subst}
 use mathlib.Core.Logic.{_↔_}
 use mathlib.Core.List.{List}
 use mathlib.Core.Bool.{Bool, true, false}
 use Prim.Native.Nat.{ℕ}
-use lib.Dec.{T}
 use Rattle.std.specs.declared.option.Option.{Option}
 use Rattle.std.specs.declared.option.Option.the-variants.{None, Some}
 use Rattle.lts.specs.System.{System}
@@ -15,7 +14,7 @@ use Rattle.testing.specs.declared.ground.Ground.{Ground}
 use Rattle.testing.specs.declared.ground.Ground.the-variants.{Reach, Settle, Offer}
 use Rattle.testing.specs.declared.ground.Split.{Split}
 use Rattle.testing.specs.Splits.{BothConvergent, Splits}
-use Rattle.testing.specs.Judging.{splitOn, byConvergence, splitRule, Shows, Judges}
+use Rattle.testing.specs.Judging.{splitOn, splitRule, Shows, Judges}
 use Rattle.testing.proofs.OneGround.{one-ground}
 use Rattle.testing.proofs.OfferRule.{rule-splits, some≢none}
 

@@ -1,23 +1,23 @@
 -- What the distinguishing tests say. Assumes nothing.
 use mathlib.Core.Path.{_≡_, refl, sym, ap, subst, _∙_}
 use mathlib.Core.List.{List, [], _∷_, _++_, append-nil}
-use mathlib.Core.Bool.{Bool, true, false, cond, not, _||_, _&&_}
+use mathlib.Core.Bool.{Bool, true, cond, not, _||_, _&&_}
 use mathlib.Core.Logic.{_⊎_, inl, inr}
 use Prim.Native.Nat.{ℕ, zero, suc, _+_, _*_, _^_, _≤_, _<_, zero-le, suc-le-suc}
 use native.Mathlib.Nat.{le-of-suc-le-suc, not-suc-le-zero, le-refl}
 use native.Mathlib.Decide.{ℕ-discrete}
 use native.Mathlib.Omega.{arith}
-use lib.Dec.{T, eqb, leb, ltb, eqb→eq, eqb-refl, leb→le, le→leb, ltb→lt, lt→ltb, T-not}
+use lib.Dec.{T, eqb, leb, ltb, eqb→eq, eqb-refl, leb→le, le→leb, ltb→lt, lt→ltb}
 use lib.ListN.{length, drop}
 use lib.Seq.{drop-length}
 use lib.Pow.{pow-pos, pow-lt}
 use Rattle.lts.specs.Sets.{In, has}
-use Rattle.lts.specs.System.{System, Lawful, Tester, LawfulTester}
-use Rattle.lts.specs.Traces.{Hidden, Visible, Path, After, CanDo, stay, Convergent, Stable, Acceptance, offer}
+use Rattle.lts.specs.System.{System, Lawful, LawfulTester}
+use Rattle.lts.specs.Traces.{Hidden, Visible, After, stay, Convergent, Stable, Acceptance, offer}
 use Rattle.lts.specs.Order.{Actions}
 use Rattle.lts.proofs.Membership.{some-member, not-empty, alone-in, in-alone}
-use Rattle.testing.specs.Testing.{Step, by-system, by-test, by-both, Stuck, Must, May}
-use Rattle.testing.specs.Distinguish.{leads, ladder, reachTest, settleTest, offerTest}
+use Rattle.testing.specs.Testing.{Step, by-system, by-test, by-both, Stuck, Must}
+use Rattle.testing.specs.Distinguish.{leads, ladder, reachTest, offerTest}
 use Rattle.testing.specs.Theorems.{ReachTest, SettleTest, OfferTest, Answers}
 use Rattle.testing.proofs.Truth.{eq-T, or-T, T-left, T-right, and-T, T-and, at-cond}
 use Rattle.testing.proofs.Search.{look}

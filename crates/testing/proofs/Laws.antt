@@ -1,12 +1,11 @@
 -- The laws of systems, about members of sets. Assumes nothing.
-use mathlib.Core.Path.{_≡_, sym, subst}
-use mathlib.Core.List.{List, [], _∷_, _++_}
-use mathlib.Core.Bool.{Bool, not}
+use mathlib.Core.List.{List}
+use mathlib.Core.Bool.{not}
 use mathlib.Core.Logic.{_≢_}
-use Prim.Native.Nat.{ℕ, zero, suc, _≤_, _<_}
+use Prim.Native.Nat.{ℕ, suc, _<_}
 use native.Mathlib.Decide.{decLt}
 use native.Mathlib.Omega.{arith}
-use lib.Dec.{T, eqb, eqb→eq, T-not, not-T}
+use lib.Dec.{eqb, eqb→eq, T-not, not-T}
 use Rattle.lts.specs.Sets.{In}
 use Rattle.lts.specs.System.{System, Lawful}
 use Rattle.lts.specs.Traces.{Hidden, Visible, Path, done, silent, action, HiddenRun, stay, move, offer}

@@ -1,8 +1,8 @@
 -- The rule of the ground Offer over lists does what it says, and is the rule over minimal acceptance sets. Assumes nothing.
-use mathlib.Core.Path.{_≡_, refl, sym, ap, ap₂, subst, _∙_}
+use mathlib.Core.Path.{_≡_, refl, sym, ap₂, subst}
 use mathlib.Core.List.{List, [], _∷_}
-use mathlib.Core.Bool.{Bool, true, false, cond, not, _||_}
-use mathlib.Core.Logic.{_⊎_, inl, inr, _↔_}
+use mathlib.Core.Bool.{not}
+use mathlib.Core.Logic.{inl, inr, _↔_}
 use Prim.Native.Nat.{ℕ, _≤_, _<_}
 use native.Mathlib.Omega.{arith}
 use lib.Dec.{T, eqb→eq, T-not}
@@ -11,8 +11,6 @@ use Rattle.std.specs.declared.option.Option.{Option}
 use Rattle.std.specs.declared.option.Option.the-variants.{None, Some}
 use Rattle.lts.specs.Sets.{In, Subset}
 use Rattle.lts.specs.System.{System}
-use Rattle.lts.specs.Traces.{Minimal}
-use Rattle.lts.specs.declared.sets.ActionSet.{ActionSet}
 use Rattle.lts.proofs.Membership.{in-and, and-in, same-members}
 use Rattle.testing.specs.declared.ground.Side.{Side}
 use Rattle.testing.specs.declared.ground.Side.the-variants.{Left, Right}
@@ -20,7 +18,7 @@ use Rattle.testing.specs.declared.ground.Ground.{Ground}
 use Rattle.testing.specs.declared.ground.Ground.the-variants.{Reach, Settle, Offer}
 use Rattle.testing.specs.declared.ground.Split.{Split}
 use Rattle.testing.specs.Splits.{Bare, Lowest, BothConvergent, Splits}
-use Rattle.testing.specs.Rule.{Member, Above, Ascending, within, covered, firstBare, offerSplit, byOffer, offerRule, Antichain, BareIn, Listed, RuleSays, RuleLaw, RuleDiffers, RuleSplits}
+use Rattle.testing.specs.Rule.{Member, Above, Ascending, within, covered, firstBare, byOffer, offerRule, Antichain, BareIn, Listed, RuleSays, RuleLaw, RuleDiffers, RuleSplits}
 use Rattle.testing.proofs.Truth.{eq-T, or-T, T-left, T-right, at-cond}
 use Rattle.testing.proofs.OneGround.{one-ground}
 

@@ -1,5 +1,5 @@
 -- If r may stand in for l, what may pass with r may pass with l, and what must pass with l must pass with r. Assumes nothing.
-use mathlib.Core.Path.{_≡_, refl, sym, subst}
+use mathlib.Core.Path.{_≡_, refl, subst}
 use mathlib.Core.List.{List, [], _∷_, append-nil}
 use mathlib.Core.Logic.{_⊎_, inl, inr}
 use Prim.Native.Nat.{ℕ, zero, suc, _+_, _*_, _≤_, _<_, zero-le, suc-le-suc}
@@ -9,7 +9,7 @@ use native.Mathlib.Omega.{arith}
 use lib.Dec.{T}
 use Rattle.lts.specs.Sets.{In, Subset}
 use Rattle.lts.specs.System.{System, Lawful, Tester}
-use Rattle.lts.specs.Traces.{Hidden, Visible, Path, done, action, After, CanDo, HiddenRun, stay, Divergent, Convergent, Stable, offer, Acceptance}
+use Rattle.lts.specs.Traces.{Hidden, Visible, Path, done, action, HiddenRun, stay, Divergent, Stable, offer}
 use Rattle.lts.proofs.Membership.{some-member, not-empty}
 use Rattle.testing.specs.Testing.{Step, by-system, by-test, by-both, Run, stop, step, Visits, Stuck, Must, May}
 use Rattle.testing.specs.Theorems.{Refines, OneWay}

@@ -1,6 +1,6 @@
 -- If no trace splits two systems, every trace shows the same of both, and then every test passes with both or with neither. Assumes nothing.
 use mathlib.Core.List.{List}
-use mathlib.Core.Logic.{_⊎_, inl, inr, _↔_}
+use mathlib.Core.Logic.{inl, inr, _↔_}
 use Prim.Native.Nat.{ℕ}
 use Rattle.lts.specs.System.{System, Lawful}
 use Rattle.lts.specs.Traces.{CanDo, Convergent, Minimal}
@@ -8,8 +8,8 @@ use Rattle.testing.specs.declared.ground.Side.{Side}
 use Rattle.testing.specs.declared.ground.Side.the-variants.{Left, Right}
 use Rattle.testing.specs.declared.ground.Ground.{Ground}
 use Rattle.testing.specs.declared.ground.Ground.the-variants.{Reach, Settle, Offer}
-use Rattle.testing.specs.Splits.{Bare, Splits, NoSplit}
-use Rattle.testing.specs.Theorems.{RefinesAt, Refines, SameAt, Same, BothWays, TwoWay, SplitLaw, SoundYes}
+use Rattle.testing.specs.Splits.{Splits, NoSplit}
+use Rattle.testing.specs.Theorems.{Refines, SameAt, Same, BothWays, TwoWay, SplitLaw, SoundYes}
 use Rattle.testing.proofs.Laws.{path-actions}
 use Rattle.testing.proofs.Decide.{can-dec, minimal-within}
 use Rattle.testing.proofs.OneWay.{one-way}

@@ -14,7 +14,7 @@ use Rattle.lts.specs.declared.sets.ActionSet.{ActionSet}
 use Rattle.testing.specs.declared.ground.Side.{Side}
 use Rattle.testing.specs.declared.ground.Side.the-variants.{Left, Right}
 use Rattle.testing.specs.declared.ground.Ground.{Ground}
-use Rattle.testing.specs.declared.ground.Ground.the-variants.{Reach, Settle, Offer}
+use Rattle.testing.specs.declared.ground.Ground.the-variants.{Reach, Settle}
 use Rattle.testing.specs.declared.ground.Split.{Split}
 use Rattle.testing.specs.declared.ground.Shown.{Shown}
 use Rattle.testing.specs.Splits.{Splits}

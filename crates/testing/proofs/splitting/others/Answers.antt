@@ -1,5 +1,4 @@
 -- The complement of a word is the set of the actions outside it.
-use mathlib.Core.Path.{sym, _∙_}
 use native.Mathlib.Omega.{arith}
 use Rattle.testing.proofs.SetLists.{others-sum}
 use Rattle.testing.proofs.splitting.others.Needs as need
