@@ -1,2 +1,13 @@
 pub mod Membership
 pub mod Order
+pub mod Cycles
+pub mod Walking
+pub mod TraceStates
+pub mod Antichains
+pub mod Marks
+pub mod Searches
+pub mod Tabled
+pub mod Lowest
+pub mod UnionSteps
+pub mod Derivations
+pub mod TableLaws

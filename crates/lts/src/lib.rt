@@ -1,3 +1,12 @@
-// Labelled transition systems: sets of states and actions, and the interface that every kind of system meets.
+// Labelled transition systems: sets of states and actions, the interface that every kind of system meets, and where a trace leads.
+pub mod compile;
+pub mod compiled;
+mod derive;
+pub mod graphs;
+pub mod node_table;
 pub mod sets;
 pub mod system;
+mod tables;
+pub mod tabulate;
+pub mod tabulated;
+pub mod transitions;
