@@ -2,13 +2,13 @@
 use mathlib.Core.List.{List}
 use mathlib.Core.Bool.{not}
 use mathlib.Core.Logic.{_≢_}
-use Prim.Native.Nat.{ℕ, suc, _<_}
+use Prim.Native.Nat.{ℕ, _<_}
 use native.Mathlib.Decide.{decLt}
 use native.Mathlib.Omega.{arith}
 use lib.Dec.{eqb, eqb→eq, T-not, not-T}
 use Rattle.lts.specs.Sets.{In}
 use Rattle.lts.specs.System.{System, Lawful}
-use Rattle.lts.specs.Traces.{Hidden, Visible, Path, done, silent, action, HiddenRun, stay, move, offer}
+use Rattle.lts.specs.Traces.{Hidden, Visible, Path, done, silent, action, offer}
 use Rattle.lts.specs.Order.{Actions}
 use Rattle.lts.proofs.Membership.{members-below, not-empty, in-set, set-in}
 use Rattle.testing.proofs.Truth.{eq-T}
@@ -36,15 +36,6 @@ pub path-actions : (m : System) → Lawful m → {p q : ℕ} {s : List ℕ} → 
 path-actions m lawful done = tt
 path-actions m lawful (silent h w) = path-actions m lawful w
 path-actions m lawful (action {p = p} {a = a} {q = q} h w) = (action-below m lawful p a q h, path-actions m lawful w)
-
--- paths and silent runs put together
-pub hidden-path : (m : System) {n p q r : ℕ} {s : List ℕ} → HiddenRun m n p q → Path m q s r → Path m p s r
-hidden-path m stay w = w
-hidden-path m (move h t) w = silent h (hidden-path m t w)
-
-pub hidden-more : (m : System) {n p q r : ℕ} → HiddenRun m n p q → Hidden m q r → HiddenRun m (suc n) p r
-hidden-more m stay h = move h stay
-hidden-more m (move g t) h = move g (hidden-more m t h)
 
 -- the actions that a state offers are those that lead somewhere
 pub offer-below : (m : System) (q a : ℕ) → In a (offer m q) → a < 32

@@ -1,46 +1,26 @@
 -- The rule of the ground Offer over lists does what it says, and is the rule over minimal acceptance sets. Assumes nothing.
-use mathlib.Core.Path.{_≡_, refl, sym, ap₂, subst}
+use mathlib.Core.Path.{_≡_, refl, sym, subst}
 use mathlib.Core.List.{List, [], _∷_}
-use mathlib.Core.Bool.{not}
+use mathlib.Core.Bool.{true}
 use mathlib.Core.Logic.{inl, inr, _↔_}
 use Prim.Native.Nat.{ℕ, _≤_, _<_}
 use native.Mathlib.Omega.{arith}
-use lib.Dec.{T, eqb→eq, T-not}
-use lib.Bits.{bitAnd}
 use Rattle.std.specs.declared.option.Option.{Option}
 use Rattle.std.specs.declared.option.Option.the-variants.{None, Some}
-use Rattle.lts.specs.Sets.{In, Subset}
+use Rattle.std.proofs.shelf.Tests.{both-ways, cond-both}
+use Rattle.lts.specs.Sets.{Subset}
 use Rattle.lts.specs.System.{System}
-use Rattle.lts.proofs.Membership.{in-and, and-in, same-members}
+use Rattle.lts.specs.Families.{Member, Above, Ascending, covered}
+use Rattle.lts.proofs.Antichains.{within-subset, subset-within, covered-member, member-covered, ascending-same}
+use Rattle.lts.proofs.Membership.{same-members}
 use Rattle.testing.specs.declared.ground.Side.{Side}
 use Rattle.testing.specs.declared.ground.Side.the-variants.{Left, Right}
 use Rattle.testing.specs.declared.ground.Ground.{Ground}
 use Rattle.testing.specs.declared.ground.Ground.the-variants.{Reach, Settle, Offer}
 use Rattle.testing.specs.declared.ground.Split.{Split}
 use Rattle.testing.specs.Splits.{Bare, Lowest, BothConvergent, Splits}
-use Rattle.testing.specs.Rule.{Member, Above, Ascending, within, covered, firstBare, byOffer, offerRule, Antichain, BareIn, Listed, RuleSays, RuleLaw, RuleDiffers, RuleSplits}
-use Rattle.testing.proofs.Truth.{eq-T, or-T, T-left, T-right, at-cond}
+use Rattle.testing.specs.Rule.{firstBare, byOffer, offerRule, Antichain, BareIn, Listed, RuleSays, RuleLaw, RuleDiffers, RuleSplits}
 use Rattle.testing.proofs.OneGround.{one-ground}
-
-within-subset : (a b : ℕ) → T (within a b) → Subset a b
-within-subset a b t k i = in-and k a b (subst (λ (x : ℕ). In k x) (sym (eqb→eq (bitAnd a b) a t)) i) .1
-
-subset-within : (a b : ℕ) → Subset a b → T (within a b)
-subset-within a b f = eq-T (bitAnd a b) a (same-members (bitAnd a b) a (λ k i. in-and k a b i .0) (λ k i. and-in k a b i (f k i)))
-
-covered-member : (x : ℕ) (ys : List ℕ) → T (covered x ys) → (y : ℕ) × Member y ys × Subset y x
-unfolding covered
-covered-member x [] t = absurd t
-covered-member x (y ∷ ys) t = elim (or-T (within y x) (covered x ys) t) [
-  | inl u ↦ (y, inl refl, within-subset y x u)
-  | inr u ↦ (let r = covered-member x ys u in (r .0, inr (r .1), r .2))
-]
-
-member-covered : (x y : ℕ) (ys : List ℕ) → Member y ys → Subset y x → T (covered x ys)
-unfolding covered
-member-covered x y [] h f = absurd h
-member-covered x y (z ∷ zs) (inl e) f = T-left (within z x) (covered x zs) (subset-within z x (subst (λ (w : ℕ). Subset w x) e f))
-member-covered x y (z ∷ zs) (inr h) f = T-right (within z x) (covered x zs) (member-covered x y zs h f)
 
 above-member : (w z : ℕ) (xs : List ℕ) → Above w xs → Member z xs → w < z
 above-member w z [] a h = absurd h
@@ -52,25 +32,28 @@ abbrev Found : List ℕ → List ℕ → Option ℕ → Type 0
 Found xs ys None = (x : ℕ) → Member x xs → (y : ℕ) × Member y ys × Subset y x
 Found xs ys (Some S) = Lowest (BareIn xs ys) S
 
+one-inside : (x : ℕ) (ys : List ℕ) → covered x ys ≡ true → (y : ℕ) × Member y ys × Subset y x
+one-inside x ys e = let c = covered-member x ys e in (c .0, c .1, within-subset (c .0) x (c .2))
+
 first-bare : (xs ys : List ℕ) → Ascending xs → Found xs ys (firstBare xs ys)
 unfolding firstBare
 first-bare [] ys a = λ x h. absurd h
-first-bare (x ∷ xs) ys a = at-cond (Found (x ∷ xs) ys) (covered x ys) _ _
-    (λ t. later t (firstBare xs ys) (first-bare xs ys (a .1)))
-    (λ t. record {
-      holds = record { member = inl refl; free = λ y h f. T-not (covered x ys) t (member-covered x y ys h f) };
+first-bare (x ∷ xs) ys a = cond-both (covered x ys) _ _ (Found (x ∷ xs) ys)
+    (λ e. later (one-inside x ys e) (firstBare xs ys) (first-bare xs ys (a .1)))
+    (λ e. record {
+      holds = record { member = inl refl; free = λ y h f. both-ways (covered x ys) e (member-covered x y ys h (subset-within y x f)) };
       lowest = λ R b. lowest R (b .member);
     })
   where
-    later : T (covered x ys) → (o : Option ℕ) → Found xs ys o → Found (x ∷ xs) ys o
-    later t None f = λ z. elim [
-      | inl e ↦ subst (λ (w : ℕ). (y : ℕ) × Member y ys × Subset y w) (sym e) (covered-member x ys t)
+    later : (y : ℕ) × Member y ys × Subset y x → (o : Option ℕ) → Found xs ys o → Found (x ∷ xs) ys o
+    later c None f = λ z. elim [
+      | inl e ↦ subst (λ (w : ℕ). (y : ℕ) × Member y ys × Subset y w) (sym e) c
       | inr h ↦ f z h
     ]
-    later t (Some S) f = record {
+    later c (Some S) f = record {
       holds = record { member = inr (f .holds .member); free = f .holds .free };
       lowest = λ R b. elim (b .member) [
-        | inl e ↦ (let c = covered-member x ys t in absurd (b .free (c .0) (c .1) (subst (λ (v : ℕ). Subset (c .0) v) (sym e) (c .2))))
+        | inl e ↦ absurd (b .free (c .0) (c .1) (subst (λ (v : ℕ). Subset (c .0) v) (sym e) (c .2)))
         | inr h ↦ f .lowest R (record { member = h; free = b .free })
       ];
     }
@@ -89,27 +72,6 @@ rule-law xs ys a b = by (firstBare xs ys) (firstBare ys xs) (first-bare xs ys a)
     by (Some S) p f g = inl (S, f, refl)
     by None (Some S) f g = inr (none-bare xs ys f, (S, g, refl))
     by None None f g = (none-bare xs ys f, none-bare ys xs g)
-
--- ascending lists with the same members are the same
-ascending-same : (xs ys : List ℕ) → Ascending xs → Ascending ys → ((z : ℕ) → Member z xs → Member z ys) → ((z : ℕ) → Member z ys → Member z xs) → xs ≡ ys
-ascending-same [] [] a b f g = refl
-ascending-same [] (y ∷ ys) a b f g = absurd (g y (inl refl))
-ascending-same (x ∷ xs) [] a b f g = absurd (f x (inl refl))
-ascending-same (x ∷ xs) (y ∷ ys) a b f g =
-    let e = heads in
-    ap₂ {B = List ℕ} {C = List ℕ} (λ u v. u ∷ v) e
-    (ascending-same xs ys (a .1) (b .1)
-    (λ z h. elim (f z (inr h)) [ inl p ↦ (let c = above-member x z xs (a .0) h in absurd (omega arith)) | inr m ↦ m ])
-    (λ z h. elim (g z (inr h)) [ inl p ↦ (let c = above-member y z ys (b .0) h in absurd (omega arith)) | inr m ↦ m ]))
-  where
-    heads : x ≡ y
-    heads = elim (f x (inl refl)) [
-      | inl p ↦ p
-      | inr m ↦ elim (g y (inl refl)) [
-        | inl q ↦ sym q
-        | inr k ↦ (let c = above-member y x ys (b .0) m in let d = above-member x y xs (a .0) k in absurd (omega arith))
-      ]
-    ]
 
 -- of lists that cover each other, each has the other's members
 moved : (xs ys : List ℕ) → Antichain xs → Found xs ys None → Found ys xs None → (z : ℕ) → Member z xs → Member z ys

@@ -11,11 +11,13 @@ use Rattle.lts.specs.Sets.{In, Subset}
 use Rattle.lts.specs.System.{System, Lawful, Tester}
 use Rattle.lts.specs.Traces.{Hidden, Visible, Path, done, action, HiddenRun, stay, Divergent, Stable, offer}
 use Rattle.lts.proofs.Membership.{some-member, not-empty}
+use Rattle.lts.proofs.Cycles.{diverges}
+use Rattle.lts.proofs.Walking.{walk-more}
+use Rattle.lts.proofs.TraceStates.{run-path}
 use Rattle.testing.specs.Testing.{Step, by-system, by-test, by-both, Run, stop, step, Visits, Stuck, Must, May}
 use Rattle.testing.specs.Theorems.{Refines, OneWay}
-use Rattle.testing.proofs.Laws.{hidden-in, visible-in, hidden-path, hidden-more, offered, offers}
+use Rattle.testing.proofs.Laws.{hidden-in, visible-in, offered, offers}
 use Rattle.testing.proofs.Runs.{Moves, rest, alone, joint, Within, halt, go, front, whole, apart, combine, Fails, visits-dec, avoiding, not-long, not-ended, convergent-along}
-use Rattle.testing.proofs.Cycles.{diverges}
 
 -- a run goes on for n moves of the test, or comes to a divergent state of the system
 abbrev pub Many : (m : System) (e : Tester) (P : ℕ → Type 0) → ℕ → ℕ → ℕ → Type 0
@@ -26,8 +28,8 @@ Loose m e P p x = (s : List ℕ) × (q : ℕ) × Path m p s q × Divergent m q �
 
 module _ (m : System) (e : Tester) (P : ℕ → Type 0) (lawful : Lawful m) where
   behind : {n d p q x : ℕ} → HiddenRun m d p q → Many m e P n q x ⊎ Loose m e P q x → Many m e P n p x ⊎ Loose m e P p x
-  behind r (inl t) = inl (t .0, t .1, hidden-path m r (t .2), t .3)
-  behind r (inr t) = inr (t .0, t .1, hidden-path m r (t .2), t .3, t .4)
+  behind r (inl t) = inl (t .0, t .1, run-path m r (t .2), t .3)
+  behind r (inr t) = inr (t .0, t .1, run-path m r (t .2), t .3, t .4)
 
   after-alone : {n p x y : ℕ} → P x → Hidden (e .system) x y → Many m e P n p y ⊎ Loose m e P p y → Many m e P (suc n) p x ⊎ Loose m e P p x
   after-alone h j (inl t) = inl (t .0, t .1, t .2, (suc (t .3 .0), t .3 .1, suc-le-suc (t .3 .2), alone h j (t .3 .3)))
@@ -41,12 +43,12 @@ module _ (m : System) (e : Tester) (P : ℕ → Type 0) (lawful : Lawful m) wher
   -- d silent steps of the system from o lie behind, and it takes t more at most before the test moves or it diverges
   pub sorted : {k p x q y : ℕ} → Within m e P k p x q y → (n t d o : ℕ) → HiddenRun m d o p → o < m .count → p < m .count
       → d + t ≡ m .count → t + n * suc (m .count) ≤ k → Many m e P n o x ⊎ Loose m e P o x
-  sorted {p = p} {x = x} w zero t d o r bo bp e b = inl ([], p, hidden-path m r done, (0, x, zero-le, rest (front m _ P w)))
+  sorted {p = p} {x = x} w zero t d o r bo bp e b = inl ([], p, run-path m r done, (0, x, zero-le, rest (front m _ P w)))
   sorted {x = x} w (suc n) zero d o r bo bp e b =
       inr ([], o, done, diverges (m .hidden) (m .count) (hidden-in m lawful) r bo (omega arith), (0, x, rest (front m _ P w)))
   sorted (halt h) (suc n) (suc t) d o r bo bp e b = absurd (omega arith)
   sorted (go {p = p} {p′ = q} h (by-system j) w) (suc n) (suc t) d o r bo bp e b =
-      sorted w (suc n) t (suc d) o (hidden-more m r j) bo (hidden-in m lawful p q j) (omega arith) (omega arith)
+      sorted w (suc n) t (suc d) o (walk-more (m .hidden) r j) bo (hidden-in m lawful p q j) (omega arith) (omega arith)
   sorted (go {p = p} h (by-test j) w) (suc n) (suc t) d o r bo bp e b =
       let s = suc-mul n (suc (m .count)) in
       behind r (after-alone h j (sorted w n (m .count) 0 p stay bp bp (omega arith) (omega arith)))

@@ -16,7 +16,8 @@ use Rattle.lts.specs.Sets.{has, setOf}
 use Rattle.lts.specs.declared.sets.ActionSet.{ActionSet}
 use Rattle.lts.proofs.Membership.{in-zero, in-odd}
 use borrow.Author.Tests.{eq-eqb, ne-eqb}
-use Rattle.testing.specs.Rule.{within, covered, firstBare}
+use Rattle.lts.specs.Families.{within, covered}
+use Rattle.testing.specs.Rule.{firstBare}
 use Rattle.testing.specs.Judging.{numbers}
 
 half : (s k : ℕ) → s / 2 ^ suc k ≡ s / 2 / 2 ^ k

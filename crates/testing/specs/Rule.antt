@@ -2,44 +2,20 @@
 use mathlib.Core.Path.{_≡_}
 use mathlib.Core.Logic.{_⊎_, _↔_}
 use mathlib.Core.List.{List, [], _∷_}
-use mathlib.Core.Bool.{Bool, false, cond, _||_}
-use Prim.Native.Nat.{ℕ, _<_}
-use lib.Dec.{eqb}
-use lib.Bits.{bitAnd}
+use mathlib.Core.Bool.{cond}
+use Prim.Native.Nat.{ℕ}
 use Rattle.std.specs.declared.option.Option.{Option}
 use Rattle.std.specs.declared.option.Option.the-variants.{None, Some}
 use Rattle.lts.specs.Sets.{Subset}
 use Rattle.lts.specs.System.{System}
 use Rattle.lts.specs.Traces.{Minimal}
+use Rattle.lts.specs.Families.{Member, Ascending, covered}
 use Rattle.testing.specs.declared.ground.Side.{Side}
 use Rattle.testing.specs.declared.ground.Side.the-variants.{Left, Right}
 use Rattle.testing.specs.declared.ground.Ground.the-variants.{Offer}
 use Rattle.testing.specs.declared.ground.Split.{Split}
 use Rattle.testing.specs.Distinguish.{others}
 use Rattle.testing.specs.Splits.{Lowest, BothConvergent, Splits}
-
-abbrev pub Member : ℕ → List ℕ → Type 0
-Member x [] = ⊥
-Member x (y ∷ ys) = (x ≡ y) ⊎ Member x ys
-
--- every number of the list is above x
-abbrev pub Above : ℕ → List ℕ → Type 0
-Above x [] = Unit {0}
-Above x (y ∷ ys) = (x < y) × Above x ys
-
--- ascending, and so without duplicates
-abbrev pub Ascending : List ℕ → Type 0
-Ascending [] = Unit {0}
-Ascending (x ∷ xs) = Above x xs × Ascending xs
-
--- every member of the set a is one of b
-abbrev pub within : ℕ → ℕ → Bool
-within a b = eqb (bitAnd a b) a
-
--- x contains a set of the list
-unfoldable pub covered : ℕ → List ℕ → Bool
-covered x [] = false
-covered x (y ∷ ys) = within y x || covered x ys
 
 -- the first of xs that contains no set of ys
 unfoldable pub firstBare : List ℕ → List ℕ → Option ℕ
