@@ -8,13 +8,20 @@ use Rattle.std.specs.declared.option.Option.{Option}
 use Rattle.std.specs.declared.option.Option.the-variants.{None, Some}
 use Rattle.lts.specs.System.{System}
 use Rattle.lts.specs.Traces.{CanDo, Convergent}
+use Rattle.lts.specs.Macrostates.{macrostate}
+use Rattle.lts.specs.Families.{minimal}
+use Rattle.lts.proofs.Membership.{some-member, not-empty}
+use Rattle.lts.proofs.TraceStates.{states-after, convergent-along}
+use Rattle.lts.proofs.Antichains.{antichain-ascending, minimal-antichain, member-minimal, minimal-member}
+use Rattle.testing.proofs.Truth.{eq-T}
+use lib.Dec.{eqb, T-not, not-T, eqb→eq}
 use Rattle.testing.specs.declared.ground.Side.{Side}
 use Rattle.testing.specs.declared.ground.Side.the-variants.{Left, Right}
 use Rattle.testing.specs.declared.ground.Ground.{Ground}
 use Rattle.testing.specs.declared.ground.Ground.the-variants.{Reach, Settle, Offer}
 use Rattle.testing.specs.declared.ground.Split.{Split}
 use Rattle.testing.specs.Splits.{BothConvergent, Splits}
-use Rattle.testing.specs.Judging.{splitOn, splitRule, Shows, Judges}
+use Rattle.testing.specs.Judging.{splitOn, splitRule, Shows, Judges, MacrostateShows}
 use Rattle.testing.proofs.OneGround.{one-ground}
 use Rattle.testing.proofs.OfferRule.{rule-splits, some≢none}
 
@@ -64,3 +71,18 @@ by-flags l r s false false cl cr xs ys a b = tells-none l r s (none-do l r s (a 
 
 pub judges : Judges
 judges l r s x y = by-flags l r s (x .does) (y .does) (x .convergent) (y .convergent) _ _
+
+pub macrostate-shows : MacrostateShows
+macrostate-shows m lawful s =
+    let S = macrostate m s .states in
+    record {
+      does = (
+        λ t. let b = some-member S (λ e. T-not (eqb S 0) t (eq-T S 0 e)) in (b .0, states-after m lawful s (b .0) .0 (b .1)),
+        λ c. not-T (eqb S 0) (λ t. not-empty (c .0) S (states-after m lawful s (c .0) .1 (c .1)) (eqb→eq S 0 t)),
+      );
+      converges = convergent-along m lawful s;
+      minimal = λ t. record {
+        ascending = antichain-ascending (minimal m S) (minimal-antichain m S (m .count));
+        members = λ A. (member-minimal m lawful s A, minimal-member m lawful s A);
+      };
+    }

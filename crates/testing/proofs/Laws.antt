@@ -26,12 +26,7 @@ action-below m lawful p a q h = elim (decLt a 32) [
   | no b ↦ absurd (not-empty q (m .visible p a) h (lawful .no-action p a (omega arith)))
 ]
 
--- so do paths, and what a lawful system can do is a trace
-pub path-below : (m : System) → Lawful m → {p q : ℕ} {s : List ℕ} → Path m p s q → p < m .count → q < m .count
-path-below m lawful done b = b
-path-below m lawful (silent {p = p} {q = r} h w) b = path-below m lawful w (hidden-in m lawful p r h)
-path-below m lawful (action {p = p} {a = a} {q = r} h w) b = path-below m lawful w (visible-in m lawful p a r h)
-
+-- what a lawful system can do is a trace
 pub path-actions : (m : System) → Lawful m → {p q : ℕ} {s : List ℕ} → Path m p s q → Actions s
 path-actions m lawful done = tt
 path-actions m lawful (silent h w) = path-actions m lawful w

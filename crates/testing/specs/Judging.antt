@@ -2,14 +2,16 @@
 use mathlib.Core.Path.{_≡_}
 use mathlib.Core.Logic.{_↔_}
 use mathlib.Core.List.{List, [], _∷_}
-use mathlib.Core.Bool.{Bool, true, false}
+use mathlib.Core.Bool.{Bool, true, false, not}
 use Prim.Native.Nat.{ℕ}
-use lib.Dec.{T}
+use lib.Dec.{T, eqb}
 use denote.Ref.{now}
 use Rattle.std.specs.declared.option.Option.{Option}
 use Rattle.std.specs.declared.option.Option.the-variants.{None, Some}
-use Rattle.lts.specs.System.{System}
+use Rattle.lts.specs.System.{System, Lawful}
 use Rattle.lts.specs.Traces.{CanDo, Convergent}
+use Rattle.lts.specs.Macrostates.{macrostate}
+use Rattle.lts.specs.Families.{minimal}
 use Rattle.lts.specs.declared.sets.ActionSet.{ActionSet}
 use Rattle.testing.specs.declared.ground.Side.{Side}
 use Rattle.testing.specs.declared.ground.Side.the-variants.{Left, Right}
@@ -64,3 +66,8 @@ ShownBy m s x = Shows m s (x .does) (x .convergent) (numbers (now (x .minimal)))
 abbrev pub Judges : Type 0
 Judges = (l r : System) (s : List ℕ) (x y : Shown) → ShownBy l s x → ShownBy r s y
     → (v : Split) → told x y ≡ Some v ↔ Splits l r s (v .ground) (v .passer)
+
+-- The macrostate after a trace, and its list of minimal sets, are what the trace shows.
+abbrev pub MacrostateShows : Type 0
+MacrostateShows = (m : System) → Lawful m → (s : List ℕ)
+    → Shows m s (not (eqb (macrostate m s .states) 0)) (macrostate m s .convergent) (minimal m (macrostate m s .states))

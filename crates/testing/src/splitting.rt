@@ -6,7 +6,7 @@ ghost use Rattle.testing.specs.Distinguish.{others as othersOf};
 ghost use Rattle.lts.specs.Families.{within, covered as coveredIn};
 ghost use Rattle.testing.specs.Rule.{firstBare, offerSplit, byOffer, offerRule, RuleLaw, RuleDiffers, RuleSplits};
 ghost use Rattle.testing.specs.Theorems.{RuleFinds, OneGround, OneFirst, OneWay, BothWays, TwoWay, SplitLaw, SoundYes, TestsAndTraces};
-ghost use Rattle.testing.specs.Judging.{numbers, number, splitOn, byConvergence, told, Judges};
+ghost use Rattle.testing.specs.Judging.{numbers, number, splitOn, byConvergence, told, MacrostateShows, Judges};
 use crate::ground::Ground;
 use crate::ground::Shown;
 use crate::ground::Side;
@@ -112,6 +112,7 @@ fn judged(left: Shown<'_>, right: Shown<'_>) -> Option<Split>
 // How a trace splits two systems, from what it shows of each; none if it does not.
 pub fn split(left: Shown<'_>, right: Shown<'_>) -> Option<Split>
     ensures value { λ r. ⌜ r ≡ told (left .entry) (right .entry) ⌝ }
+    ensures shows { λ _. ⌜ MacrostateShows ⌝ }
     ensures judges { λ _. ⌜ Judges ⌝ }
     ensures rule { λ _. ⌜ RuleLaw ⌝ }
     ensures differs { λ _. ⌜ RuleDiffers ⌝ }
