@@ -1,5 +1,6 @@
 pub mod Membership
 pub mod Lowest
+pub mod Order
 pub mod Cycles
 pub mod Walking
 pub mod TraceStates

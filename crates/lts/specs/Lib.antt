@@ -1,6 +1,7 @@
 pub mod Sets
 pub mod System
 pub mod Traces
+pub mod Order
 pub mod Walks
 pub mod Macrostates
 pub mod Families
