@@ -1,0 +1,5 @@
+pub mod Stepped
+pub mod Worked
+pub mod Order
+pub mod Places
+pub mod Invariant

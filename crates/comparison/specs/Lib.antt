@@ -1,0 +1,6 @@
+pub mod Order
+pub mod Pairs
+pub mod Exploration
+pub mod Calls
+pub mod Law
+pub mod Examples
