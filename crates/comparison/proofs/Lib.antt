@@ -3,3 +3,5 @@ pub mod Worked
 pub mod Order
 pub mod Places
 pub mod Invariant
+pub mod Verdicts
+pub mod Stages
