@@ -5,3 +5,5 @@ pub mod Places
 pub mod Invariant
 pub mod Verdicts
 pub mod Stages
+pub mod Histories
+pub mod Proved
