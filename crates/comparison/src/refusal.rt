@@ -15,7 +15,7 @@ pub enum Refusal {
 }
 
 impl Refusal {
-    // The number that planners know the refusal by.
+    // The number that stands for the refusal outside the program.
     pub fn number(self) -> u8
         ensures { λ r. ⌜ r ≡ numberOf self ⌝ }
     {
