@@ -19,3 +19,7 @@ Lower (a ∷ s) (b ∷ t) = (a < b) ⊎ ((a ≡ b) × Lower s t)
 -- Shorter traces come first, and of equal length the one with the lower action where they first differ.
 abbrev pub Before : List ℕ → List ℕ → Type 0
 Before s t = (length s < length t) ⊎ ((length s ≡ length t) × Lower s t)
+
+-- s is t or comes before it
+abbrev pub UpTo : List ℕ → List ℕ → Type 0
+UpTo s t = (s ≡ t) ⊎ Before s t

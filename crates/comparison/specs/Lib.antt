@@ -1,0 +1,5 @@
+pub mod Pairs
+pub mod Exploration
+pub mod Calls
+pub mod Law
+pub mod Examples

@@ -1,0 +1,3 @@
+// The comparison of two systems: the law of its exploration.
+pub mod laws;
+pub mod refusal;
