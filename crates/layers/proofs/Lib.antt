@@ -1,0 +1,5 @@
+pub mod Composing
+pub mod Counters
+pub mod Deciding
+pub mod Silencing
+pub mod Transitions

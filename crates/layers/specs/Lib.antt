@@ -1,0 +1,3 @@
+pub mod Counter
+pub mod Hiding
+pub mod Parallel
