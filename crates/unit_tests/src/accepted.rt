@@ -9,18 +9,18 @@ use lts::system::Lts;
 use lts::system::Test;
 use std::test::*;
 
+// Action 0 leads from state 0 to state 1, and actions 1 and 2 from there to state 2.
 #[test]
 fn three_states(rt: LibcRuntime) -> Result<(), Fail> {
+    let words = [
+        0x1003_0003,
+        0x2000_0001,
+        0x2000_0842,
+        0x2000_0882,
+        0x5000_0000,
+    ];
     let mut card = WrittenCard::new(rt.alloc())?;
-    card.read(
-        &[
-            0x1003_0003,
-            0x2000_0001,
-            0x2000_0842,
-            0x2000_0882,
-            0x5000_0000,
-        ],
-    )?;
+    card.read(&words)?;
     check_eq(card.count(), 3)?;
     check_eq(card.start(), 0)?;
     check_eq(card.visible(0, 0).bits(), 0b10)?;
@@ -31,38 +31,27 @@ fn three_states(rt: LibcRuntime) -> Result<(), Fail> {
     check(card.visible(2, 0).is_empty())?;
     check(card.visible(3, 0).is_empty())?;
     check(card.hidden(0).is_empty())?;
-    let mut longer = [0xFFFF_FFFF; 7];
-    check_eq(card.write(&mut longer), Ok(5))?;
-    check_eq(
-        longer,
-        [
-            0x1003_0003,
-            0x2000_0001,
-            0x2000_0842,
-            0x2000_0882,
-            0x5000_0000,
-            0xFFFF_FFFF,
-            0xFFFF_FFFF,
-        ],
-    )?;
+    let mut exact = [0; 5];
+    check_eq(card.write(&mut exact), Ok(5))?;
+    check_eq(exact, words)?;
     let mut short = [0xFFFF_FFFF; 4];
     check_eq(card.write(&mut short), Err(ShortBuffer))?;
     check_eq(short, [0xFFFF_FFFF; 4])
 }
 
+// Action 0 leads from state 0 to states 1 and 2, and to state 3 action 1 from the one and action 2 from the other.
 #[test]
 fn four_states(rt: LibcRuntime) -> Result<(), Fail> {
+    let words = [
+        0x1004_0004,
+        0x2000_0001,
+        0x2000_0002,
+        0x2000_0843,
+        0x2000_1083,
+        0x5000_0000,
+    ];
     let mut card = WrittenCard::new(rt.alloc())?;
-    card.read(
-        &[
-            0x1004_0004,
-            0x2000_0001,
-            0x2000_0002,
-            0x2000_0843,
-            0x2000_1083,
-            0x5000_0000,
-        ],
-    )?;
+    card.read(&words)?;
     check_eq(card.count(), 4)?;
     check_eq(card.start(), 0)?;
     check_eq(card.visible(0, 0).bits(), 0b110)?;
@@ -74,24 +63,20 @@ fn four_states(rt: LibcRuntime) -> Result<(), Fail> {
     check(card.hidden(4).is_empty())?;
     let mut exact = [0; 6];
     check_eq(card.write(&mut exact), Ok(6))?;
-    check_eq(
-        exact,
-        [
-            0x1004_0004,
-            0x2000_0001,
-            0x2000_0002,
-            0x2000_0843,
-            0x2000_1083,
-            0x5000_0000,
-        ],
-    )
+    check_eq(exact, words)?;
+    let mut longer = [0xFFFF_FFFF; 8];
+    check_eq(card.write(&mut longer), Ok(6))?;
+    check_eq(longer[5], 0x5000_0000)?;
+    check_eq(longer[6], 0xFFFF_FFFF)?;
+    check_eq(longer[7], 0xFFFF_FFFF)
 }
 
 // The start, a line and a silent line at state 63, the last there can be.
 #[test]
 fn most_states(rt: LibcRuntime) -> Result<(), Fail> {
+    let words = [0x1002_3F40, 0x2001_FFFF, 0x3001_F83F, 0x5000_0000];
     let mut card = WrittenCard::new(rt.alloc())?;
-    card.read(&[0x1002_3F40, 0x2001_FFFF, 0x3001_F83F, 0x5000_0000])?;
+    card.read(&words)?;
     check_eq(card.count(), 64)?;
     check_eq(card.start(), 63)?;
     check_eq(card.visible(63, 31).bits(), 0x8000_0000_0000_0000)?;
@@ -101,7 +86,7 @@ fn most_states(rt: LibcRuntime) -> Result<(), Fail> {
     check(card.hidden(64).is_empty())?;
     let mut out = [0; 4];
     check_eq(card.write(&mut out), Ok(4))?;
-    check_eq(out, [0x1002_3F40, 0x2001_FFFF, 0x3001_F83F, 0x5000_0000])
+    check_eq(out, words)
 }
 
 // Actions 0 to 3 lead from each state p to state 63 - p.
@@ -136,18 +121,17 @@ fn most_lines(rt: LibcRuntime) -> Result<(), Fail> {
 // Action 0 leads from state 0 to state 1, a silent transition from there to state 2; states 0 and 2 pass.
 #[test]
 fn passing(rt: LibcRuntime) -> Result<(), Fail> {
+    let words = [
+        0x1002_0003,
+        0x2000_0001,
+        0x3000_0802,
+        0x4000_0000,
+        0x4000_0002,
+        0x5000_0000,
+    ];
     let mut test = WrittenTest::new(rt.alloc())?;
     check(!test.passes(0))?;
-    test.read(
-        &[
-            0x1002_0003,
-            0x2000_0001,
-            0x3000_0802,
-            0x4000_0000,
-            0x4000_0002,
-            0x5000_0000,
-        ],
-    )?;
+    test.read(&words)?;
     check_eq(test.count(), 3)?;
     check_eq(test.start(), 0)?;
     check_eq(test.visible(0, 0).bits(), 0b10)?;
@@ -157,20 +141,9 @@ fn passing(rt: LibcRuntime) -> Result<(), Fail> {
     check(test.passes(2))?;
     check(!test.passes(3))?;
     check(!test.passes(64))?;
-    let mut out = [0xFFFF_FFFF; 7];
-    check_eq(test.write(&mut out), Ok(6))?;
-    check_eq(
-        out,
-        [
-            0x1002_0003,
-            0x2000_0001,
-            0x3000_0802,
-            0x4000_0000,
-            0x4000_0002,
-            0x5000_0000,
-            0xFFFF_FFFF,
-        ],
-    )?;
+    let mut exact = [0; 6];
+    check_eq(test.write(&mut exact), Ok(6))?;
+    check_eq(exact, words)?;
     let mut short = [0xFFFF_FFFF; 5];
     check_eq(test.write(&mut short), Err(ShortBuffer))?;
     check_eq(short, [0xFFFF_FFFF; 5])

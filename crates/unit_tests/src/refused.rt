@@ -10,194 +10,162 @@ use lts::system::Test;
 use std::alloc::Global;
 use std::test::*;
 
-// The words are no card, and the card that was read before stays: action 0 leads from state 0 to state 1.
-fn check_card(heap: Global, words: &[u32], reason: Reason, place: usize) -> Result<(), Fail> {
-    let mut card = WrittenCard::new(heap)?;
-    card.read(&[0x1001_0002, 0x2000_0001, 0x5000_0000])?;
-    check_eq(card.read(words), Err(WordFault { reason, place }))?;
-    check_eq(card.visible(0, 0).bits(), 0b10)?;
-    let mut out = [0; 3];
-    check_eq(card.write(&mut out), Ok(3))?;
-    check_eq(out, [0x1001_0002, 0x2000_0001, 0x5000_0000])
+// What a file is refused for.
+struct Refusal {
+    heap: Global,
+    reason: Reason,
 }
 
-// The words are no test, and the test that was read before stays: a silent transition leads from state 0 to state 1, which passes.
-fn check_test(heap: Global, words: &[u32], reason: Reason, place: usize) -> Result<(), Fail> {
-    let mut test = WrittenTest::new(heap)?;
-    test.read(&[0x1001_0002, 0x3000_0001, 0x4000_0001, 0x5000_0000])?;
-    check_eq(test.read(words), Err(WordFault { reason, place }))?;
-    check_eq(test.hidden(0).bits(), 0b10)?;
-    check(test.passes(1))?;
-    let mut out = [0; 4];
-    check_eq(test.write(&mut out), Ok(4))?;
-    check_eq(out, [0x1001_0002, 0x3000_0001, 0x4000_0001, 0x5000_0000])
+impl Refusal {
+    // The words are no card, and the card that was read before stays: action 0 leads from state 0 to state 1.
+    fn card(&self, place: usize, words: &[u32]) -> Result<(), Fail> {
+        let mut card = WrittenCard::new(self.heap)?;
+        card.read(&[0x1001_0002, 0x2000_0001, 0x5000_0000])?;
+        let fault = WordFault {
+            reason: self.reason,
+            place,
+        };
+        check_eq(card.read(words), Err(fault))?;
+        check_eq(card.visible(0, 0).bits(), 0b10)?;
+        let mut out = [0; 3];
+        check_eq(card.write(&mut out), Ok(3))?;
+        check_eq(out, [0x1001_0002, 0x2000_0001, 0x5000_0000])
+    }
+
+    // The words are no test, and the test that was read before stays: a silent transition leads from state 0 to state 1, which passes.
+    fn test(&self, place: usize, words: &[u32]) -> Result<(), Fail> {
+        let mut test = WrittenTest::new(self.heap)?;
+        test.read(&[0x1001_0002, 0x3000_0001, 0x4000_0001, 0x5000_0000])?;
+        let fault = WordFault {
+            reason: self.reason,
+            place,
+        };
+        check_eq(test.read(words), Err(fault))?;
+        check_eq(test.hidden(0).bits(), 0b10)?;
+        check(test.passes(1))?;
+        let mut out = [0; 4];
+        check_eq(test.write(&mut out), Ok(4))?;
+        check_eq(out, [0x1001_0002, 0x3000_0001, 0x4000_0001, 0x5000_0000])
+    }
 }
 
-// No end word, and a word after it, whatever that is.
+// No end word.
 #[test]
-fn missing_and_trailing(rt: LibcRuntime) -> Result<(), Fail> {
-    let heap = rt.alloc();
-    check_card(heap, &[], Reason::Missing, 0)?;
-    check_card(heap, &[0x1000_0001], Reason::Missing, 1)?;
-    check_card(heap, &[0x1001_0001, 0x2000_0000], Reason::Missing, 2)?;
-    check_test(heap, &[0x1000_0001, 0x4000_0000], Reason::Missing, 2)?;
-    check_card(
-        heap,
-        &[0x1000_0001, 0x5000_0000, 0x5000_0000],
-        Reason::Trailing,
-        2,
-    )?;
-    check_card(
-        heap,
-        &[0x1000_0001, 0x5000_0000, 0xFFFF_FFFF],
-        Reason::Trailing,
-        2,
-    )
+fn missing(rt: LibcRuntime) -> Result<(), Fail> {
+    let missing = Refusal {
+        heap: rt.alloc(),
+        reason: Reason::Missing,
+    };
+    missing.card(0, &[])?;
+    missing.card(1, &[0x1000_0001])?;
+    missing.card(2, &[0x1001_0001, 0x2000_0000])?;
+    missing.test(2, &[0x1000_0001, 0x4000_0000])
 }
 
-// A word of a kind that may not stand there, and an unused bit that is set.
+// A kind that may not stand there, and an unused bit that is set.
 #[test]
 fn kind(rt: LibcRuntime) -> Result<(), Fail> {
-    let heap = rt.alloc();
-    check_card(heap, &[0x5000_0000], Reason::Kind, 0)?;
-    check_card(
-        heap,
-        &[0x1000_0001, 0x1000_0002, 0x5000_0000],
-        Reason::Kind,
-        1,
-    )?;
-    check_card(
-        heap,
-        &[0x1000_0001, 0x4000_0000, 0x5000_0000],
-        Reason::Kind,
-        1,
-    )?;
-    check_card(heap, &[0x1000_0001, 0x6000_0000], Reason::Kind, 1)?;
-    check_card(
-        heap,
-        &[0x1001_0001, 0x2002_0000, 0x5000_0000],
-        Reason::Kind,
-        1,
-    )?;
-    check_card(
-        heap,
-        &[0x1001_0001, 0x3000_0040, 0x5000_0000],
-        Reason::Kind,
-        1,
-    )?;
-    check_test(
-        heap,
-        &[0x1000_0001, 0x4000_0040, 0x5000_0000],
-        Reason::Kind,
-        1,
-    )?;
-    check_card(heap, &[0x1000_0001, 0x5000_0001], Reason::Kind, 1)
+    let kind = Refusal {
+        heap: rt.alloc(),
+        reason: Reason::Kind,
+    };
+    kind.card(0, &[0x5000_0000])?;
+    kind.card(1, &[0x1000_0001, 0x1000_0002, 0x5000_0000])?;
+    kind.card(1, &[0x1000_0001, 0x4000_0000, 0x5000_0000])?;
+    kind.card(1, &[0x1000_0001, 0x6000_0000])?;
+    kind.card(1, &[0x1001_0001, 0x2002_0000, 0x5000_0000])?;
+    kind.card(1, &[0x1001_0001, 0x3000_0040, 0x5000_0000])?;
+    kind.test(1, &[0x1000_0001, 0x4000_0040, 0x5000_0000])?;
+    kind.card(1, &[0x1000_0001, 0x5000_0001])
 }
 
 // No state, 65 states, a start that is none, 257 lines.
 #[test]
 fn range_of_the_head(rt: LibcRuntime) -> Result<(), Fail> {
-    let heap = rt.alloc();
-    check_card(heap, &[0x1000_0000, 0x5000_0000], Reason::Range, 0)?;
-    check_card(heap, &[0x1000_0041, 0x5000_0000], Reason::Range, 0)?;
-    check_card(heap, &[0x1000_0101, 0x5000_0000], Reason::Range, 0)?;
-    check_card(heap, &[0x1101_0001, 0x5000_0000], Reason::Range, 0)
+    let range = Refusal {
+        heap: rt.alloc(),
+        reason: Reason::Range,
+    };
+    range.card(0, &[0x1000_0000, 0x5000_0000])?;
+    range.card(0, &[0x1000_0041, 0x5000_0000])?;
+    range.card(0, &[0x1000_0101, 0x5000_0000])?;
+    range.card(0, &[0x1101_0001, 0x5000_0000])
 }
 
-// A line that leaves no state or leads to none, and a passing state that is none.
+// A line that leads to no state or leaves none, and a passing state that is none.
 #[test]
 fn range(rt: LibcRuntime) -> Result<(), Fail> {
-    let heap = rt.alloc();
-    let three_states_needed = [
-        0x1003_0002,
-        0x2000_0001,
-        0x2000_0842,
-        0x2000_0882,
-        0x5000_0000,
-    ];
-    check_card(heap, &three_states_needed, Reason::Range, 2)?;
-    check_card(
-        heap,
-        &[0x1001_0002, 0x2000_1000, 0x5000_0000],
-        Reason::Range,
-        1,
+    let range = Refusal {
+        heap: rt.alloc(),
+        reason: Reason::Range,
+    };
+    range.card(
+        2,
+        &[
+            0x1003_0002,
+            0x2000_0001,
+            0x2000_0842,
+            0x2000_0882,
+            0x5000_0000,
+        ],
     )?;
-    check_card(
-        heap,
-        &[0x1001_0002, 0x3000_0002, 0x5000_0000],
-        Reason::Range,
-        1,
-    )?;
-    check_test(
-        heap,
-        &[0x1000_0002, 0x4000_0002, 0x5000_0000],
-        Reason::Range,
-        1,
-    )
+    range.card(1, &[0x1001_0002, 0x2000_1000, 0x5000_0000])?;
+    range.card(1, &[0x1001_0002, 0x3000_0002, 0x5000_0000])?;
+    range.test(1, &[0x1000_0002, 0x4000_0002, 0x5000_0000])
 }
 
+// A word that is equal to the one before, or lower.
 #[test]
 fn order(rt: LibcRuntime) -> Result<(), Fail> {
-    let heap = rt.alloc();
-    check_card(
-        heap,
-        &[0x1002_0001, 0x2000_0000, 0x2000_0000, 0x5000_0000],
-        Reason::Order,
-        2,
-    )?;
-    check_card(
-        heap,
-        &[0x1002_0002, 0x2000_0001, 0x2000_0000, 0x5000_0000],
-        Reason::Order,
-        2,
-    )?;
-    check_test(
-        heap,
-        &[0x1000_0002, 0x4000_0001, 0x4000_0000, 0x5000_0000],
-        Reason::Order,
-        2,
-    )
+    let order = Refusal {
+        heap: rt.alloc(),
+        reason: Reason::Order,
+    };
+    order.card(2, &[0x1002_0001, 0x2000_0000, 0x2000_0000, 0x5000_0000])?;
+    order.card(2, &[0x1002_0002, 0x2000_0001, 0x2000_0000, 0x5000_0000])?;
+    order.test(2, &[0x1000_0002, 0x4000_0001, 0x4000_0000, 0x5000_0000])
 }
 
 // More lines than the head says, and fewer.
 #[test]
 fn lines(rt: LibcRuntime) -> Result<(), Fail> {
-    let heap = rt.alloc();
-    check_card(
-        heap,
-        &[0x1001_0002, 0x2000_0000, 0x2000_0001, 0x5000_0000],
-        Reason::Lines,
-        2,
-    )?;
-    check_card(
-        heap,
-        &[0x1002_0001, 0x2000_0000, 0x5000_0000],
-        Reason::Lines,
-        2,
-    )
+    let lines = Refusal {
+        heap: rt.alloc(),
+        reason: Reason::Lines,
+    };
+    lines.card(2, &[0x1001_0002, 0x2000_0000, 0x2000_0001, 0x5000_0000])?;
+    lines.card(2, &[0x1002_0001, 0x2000_0000, 0x5000_0000])
+}
+
+// A word after the end, whatever it is.
+#[test]
+fn trailing(rt: LibcRuntime) -> Result<(), Fail> {
+    let trailing = Refusal {
+        heap: rt.alloc(),
+        reason: Reason::Trailing,
+    };
+    trailing.card(2, &[0x1000_0001, 0x5000_0000, 0x5000_0000])?;
+    trailing.card(2, &[0x1000_0001, 0x5000_0000, 0xFFFF_FFFF])
 }
 
 // Where one word has two faults, the lower number is told.
 #[test]
 fn first_of_two(rt: LibcRuntime) -> Result<(), Fail> {
     let heap = rt.alloc();
-    check_card(heap, &[0x2000_0000], Reason::Kind, 0)?;
-    check_card(
+    let kind = Refusal {
         heap,
-        &[0x1001_0001, 0x2002_0001, 0x5000_0000],
-        Reason::Kind,
-        1,
-    )?;
-    check_card(
+        reason: Reason::Kind,
+    };
+    kind.card(0, &[0x2000_0000])?;
+    kind.card(1, &[0x1001_0001, 0x2002_0001, 0x5000_0000])?;
+    let range = Refusal {
         heap,
-        &[0x1002_0002, 0x2000_0800, 0x2000_0002, 0x5000_0000],
-        Reason::Range,
-        2,
-    )?;
-    check_card(
+        reason: Reason::Range,
+    };
+    range.card(2, &[0x1002_0002, 0x2000_0800, 0x2000_0002, 0x5000_0000])?;
+    let order = Refusal {
         heap,
-        &[0x1001_0002, 0x2000_0001, 0x2000_0000, 0x5000_0000],
-        Reason::Order,
-        2,
-    )
+        reason: Reason::Order,
+    };
+    order.card(2, &[0x1001_0002, 0x2000_0001, 0x2000_0000, 0x5000_0000])
 }
