@@ -11,6 +11,7 @@ use std::alloc::Global;
 use std::test::*;
 
 // What a file is refused for.
+#[derive(Clone, Copy)]
 struct Refusal {
     heap: Global,
     reason: Reason,
@@ -18,7 +19,7 @@ struct Refusal {
 
 impl Refusal {
     // The words are no card, and the card that was read before stays: action 0 leads from state 0 to state 1.
-    fn card(&self, place: usize, words: &[u32]) -> Result<(), Fail> {
+    fn card(self, place: usize, words: &[u32]) -> Result<(), Fail> {
         let mut card = WrittenCard::new(self.heap)?;
         card.read(&[0x1001_0002, 0x2000_0001, 0x5000_0000])?;
         let fault = WordFault {
@@ -33,7 +34,7 @@ impl Refusal {
     }
 
     // The words are no test, and the test that was read before stays: a silent transition leads from state 0 to state 1, which passes.
-    fn test(&self, place: usize, words: &[u32]) -> Result<(), Fail> {
+    fn test(self, place: usize, words: &[u32]) -> Result<(), Fail> {
         let mut test = WrittenTest::new(self.heap)?;
         test.read(&[0x1001_0002, 0x3000_0001, 0x4000_0001, 0x5000_0000])?;
         let fault = WordFault {
