@@ -47,8 +47,11 @@ unfoldable pub cardText : Contents → List ℕ
 cardText c = headText c ++ (linesText (c .lines) ++ (codes "words" ++ (wordsText (written c) ++ newline)))
 
 -- what is wrong with it
+abbrev pub faultLine : ℕ → ℕ → List ℕ
+faultLine n place = codes "FAULT " ++ (decimal n ++ (codes " at " ++ (decimal place ++ newline)))
+
 abbrev pub faultText : WordFault → List ℕ
-faultText f = codes "FAULT " ++ (decimal (number (f .reason)) ++ (codes " at " ++ (decimal (f .place) ++ newline)))
+faultText f = faultLine (number (f .reason)) (f .place)
 
 -- what is shown of a file
 abbrev pub shownText : Result Contents CardFault → List ℕ

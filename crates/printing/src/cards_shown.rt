@@ -5,7 +5,7 @@ ghost use Rattle.std.specs.Of.String.{string-bytes};
 ghost use Rattle.std.specs.Vec.{made};
 ghost use Rattle.cards.specs.Cards.{contents};
 ghost use Rattle.cards.specs.Contents.{written};
-ghost use Rattle.printing.specs.Shown.{lineText, linesText, wordsText, headText, cardText, faultText, fileText};
+ghost use Rattle.printing.specs.Shown.{lineText, linesText, wordsText, headText, cardText, faultLine, faultText, fileText};
 use crate::numerals::push_hex;
 use cards::card_calls::WrittenCardLts;
 use cards::faults::CardFault;
@@ -48,13 +48,17 @@ fn push_words(text: &mut String, words: &[u32]) -> Result<(), AllocError>
     Ok(())
 }
 
+fn fault_line(heap: Global, number: u8, place: usize) -> Result<String, AllocError>
+    ensures { λ r. ⌜ made r (λ s. string-bytes s ≡ faultLine number place) ⌝ }
+{
+    format!(heap, "FAULT {number} at {place}\n")
+}
+
 // What is wrong with a file: the number of its first fault and the word's place.
 pub fn fault_text(heap: Global, fault: CardFault) -> Result<String, AllocError>
     ensures { λ r. ⌜ made r (λ s. string-bytes s ≡ faultText (fault .word)) ⌝ }
 {
-    let number = fault.word.reason.number();
-    let place = fault.word.place;
-    format!(heap, "FAULT {number} at {place}\n")
+    fault_line(heap, fault.word.reason.number(), fault.word.place)
 }
 
 // The first line of text: how many states and lines, and the start.
