@@ -2,6 +2,10 @@
 #[cfg(test)]
 mod accepted;
 #[cfg(test)]
+mod files;
+#[cfg(test)]
+mod piles;
+#[cfg(test)]
 mod refused;
 #[cfg(test)]
 mod sets;
