@@ -13,5 +13,3 @@ mod tables;
 pub mod tabulate;
 pub mod tabulated;
 pub mod transitions;
-#[cfg(test)]
-mod tests;

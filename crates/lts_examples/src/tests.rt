@@ -5,10 +5,10 @@ ghost use Prim.Native.Nat.{ℕ, _+_, _*_, _^_, _<_, _≤_};
 ghost use lib.Bits.{bitAnd};
 ghost use lib.Dec.{ltb};
 ghost use lib.ListN.{getD};
-use crate::compile::compile_lent;
-use crate::family::Family;
-use crate::sets::StateSet;
-use crate::system::Lts;
+use lts::compile::compile_lent;
+use lts::family::Family;
+use lts::sets::StateSet;
+use lts::system::Lts;
 use std::test::*;
 
 // A system with actions 0 to 2; where action a leads from state p stands at place 3 * p + a.
