@@ -1,16 +1,3 @@
 pub mod Membership
 pub mod Lowest
 pub mod Order
-pub mod Cycles
-pub mod Walking
-pub mod TraceStates
-pub mod Antichains
-pub mod Marks
-pub mod Searches
-pub mod Tabled
-pub mod UnionSteps
-pub mod Derivations
-pub mod TableLaws
-pub mod FamilySteps
-pub mod TraceSteps
-pub mod MinimalSteps

@@ -2,15 +2,4 @@ pub mod Sets
 pub mod System
 pub mod Traces
 pub mod Order
-pub mod Walks
-pub mod Macrostates
-pub mod Families
-pub mod Graphs
-pub mod NodeTables
-pub mod Tables
-pub mod Derived
-pub mod Transitions
 pub mod Unions
-pub mod Compiled
-pub mod Offered
-pub mod Shown

@@ -11,7 +11,7 @@ use Rattle.lts.specs.Sets.{In, Subset}
 use Rattle.lts.specs.System.{System, Lawful}
 use Rattle.lts.specs.Traces.{After, CanDo, Stable, offer, Acceptance, Minimal}
 use Rattle.lts.proofs.Membership.{same-members, subset-le, in-and, and-in}
-use Rattle.lts.proofs.TraceStates.{states-after, after-below}
+use Rattle.traces.proofs.TraceStates.{states-after, after-below}
 use Rattle.testing.proofs.Search.{look, dec-below}
 
 -- two facts, the second of which may lean on the first

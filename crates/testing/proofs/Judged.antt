@@ -8,11 +8,11 @@ use Rattle.std.specs.declared.option.Option.{Option}
 use Rattle.std.specs.declared.option.Option.the-variants.{None, Some}
 use Rattle.lts.specs.System.{System}
 use Rattle.lts.specs.Traces.{CanDo, Convergent}
-use Rattle.lts.specs.Macrostates.{macrostate}
-use Rattle.lts.specs.Families.{minimal}
+use Rattle.traces.specs.Macrostates.{macrostate}
+use Rattle.traces.specs.Families.{minimal}
 use Rattle.lts.proofs.Membership.{some-member, not-empty}
-use Rattle.lts.proofs.TraceStates.{states-after, convergent-along}
-use Rattle.lts.proofs.Antichains.{antichain-ascending, minimal-antichain, member-minimal, minimal-member}
+use Rattle.traces.proofs.TraceStates.{states-after, convergent-along}
+use Rattle.traces.proofs.Antichains.{antichain-ascending, minimal-antichain, member-minimal, minimal-member}
 use Rattle.testing.proofs.Truth.{eq-T}
 use lib.Dec.{eqb, T-not, not-T, eqb→eq}
 use Rattle.testing.specs.declared.ground.Side.{Side}

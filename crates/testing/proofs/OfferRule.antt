@@ -10,8 +10,8 @@ use Rattle.std.specs.declared.option.Option.the-variants.{None, Some}
 use Rattle.std.proofs.shelf.Tests.{both-ways, cond-both}
 use Rattle.lts.specs.Sets.{Subset, Above, Ascending}
 use Rattle.lts.specs.System.{System}
-use Rattle.lts.specs.Families.{Member, covered}
-use Rattle.lts.proofs.Antichains.{within-subset, subset-within, covered-member, member-covered, ascending-same}
+use Rattle.traces.specs.Families.{Member, covered}
+use Rattle.traces.proofs.Antichains.{within-subset, subset-within, covered-member, member-covered, ascending-same}
 use Rattle.lts.proofs.Membership.{same-members}
 use Rattle.testing.specs.declared.ground.Side.{Side}
 use Rattle.testing.specs.declared.ground.Side.the-variants.{Left, Right}

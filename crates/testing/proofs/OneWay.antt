@@ -11,9 +11,9 @@ use Rattle.lts.specs.Sets.{In, Subset}
 use Rattle.lts.specs.System.{System, Lawful, Tester}
 use Rattle.lts.specs.Traces.{Hidden, Visible, Path, done, action, HiddenRun, stay, Divergent, Stable, offer}
 use Rattle.lts.proofs.Membership.{some-member, not-empty}
-use Rattle.lts.proofs.Cycles.{diverges}
-use Rattle.lts.proofs.Walking.{walk-more}
-use Rattle.lts.proofs.TraceStates.{run-path}
+use Rattle.traces.proofs.Cycles.{diverges}
+use Rattle.traces.proofs.Walking.{walk-more}
+use Rattle.traces.proofs.TraceStates.{run-path}
 use Rattle.testing.specs.Testing.{Step, by-system, by-test, by-both, Run, stop, step, Visits, Stuck, Must, May}
 use Rattle.testing.specs.Theorems.{Refines, OneWay}
 use Rattle.testing.proofs.Laws.{hidden-in, visible-in, offered, offers}

@@ -16,7 +16,7 @@ use Rattle.lts.specs.Sets.{has, setOf}
 use Rattle.lts.specs.declared.sets.ActionSet.{ActionSet}
 use Rattle.lts.proofs.Membership.{half, in-zero, in-odd}
 use borrow.Author.Tests.{eq-eqb, ne-eqb}
-use Rattle.lts.specs.Families.{within, covered}
+use Rattle.traces.specs.Families.{within, covered}
 use Rattle.testing.specs.Rule.{firstBare}
 use Rattle.testing.specs.Judging.{numbers}
 

@@ -10,8 +10,8 @@ use Rattle.std.specs.declared.option.Option.{Option}
 use Rattle.std.specs.declared.option.Option.the-variants.{None, Some}
 use Rattle.lts.specs.System.{System, Lawful}
 use Rattle.lts.specs.Traces.{CanDo, Convergent}
-use Rattle.lts.specs.Macrostates.{macrostate}
-use Rattle.lts.specs.Families.{minimal}
+use Rattle.traces.specs.Macrostates.{macrostate}
+use Rattle.traces.specs.Families.{minimal}
 use Rattle.lts.specs.declared.sets.ActionSet.{ActionSet}
 use Rattle.testing.specs.declared.ground.Side.{Side}
 use Rattle.testing.specs.declared.ground.Side.the-variants.{Left, Right}

@@ -9,7 +9,7 @@ use Rattle.std.specs.declared.option.Option.the-variants.{None, Some}
 use Rattle.lts.specs.Sets.{Subset, Ascending}
 use Rattle.lts.specs.System.{System}
 use Rattle.lts.specs.Traces.{Minimal}
-use Rattle.lts.specs.Families.{Member, covered}
+use Rattle.traces.specs.Families.{Member, covered}
 use Rattle.testing.specs.declared.ground.Side.{Side}
 use Rattle.testing.specs.declared.ground.Side.the-variants.{Left, Right}
 use Rattle.testing.specs.declared.ground.Ground.the-variants.{Offer}

@@ -3,7 +3,7 @@ ghost use mathlib.Core.Path.{_≡_};
 ghost use mathlib.Core.Bool.{not};
 ghost use Rattle.std.specs.Options.{isSome};
 ghost use Rattle.testing.specs.Distinguish.{others as othersOf};
-ghost use Rattle.lts.specs.Families.{within, covered as coveredIn};
+ghost use Rattle.traces.specs.Families.{within, covered as coveredIn};
 ghost use Rattle.testing.specs.Rule.{firstBare, offerSplit, byOffer, offerRule, RuleLaw, RuleDiffers, RuleSplits};
 ghost use Rattle.testing.specs.Theorems.{RuleFinds, OneGround, OneFirst, OneWay, BothWays, TwoWay, SplitLaw, SoundYes, TestsAndTraces};
 ghost use Rattle.testing.specs.Judging.{numbers, number, splitOn, byConvergence, told, MacrostateShows, Judges};

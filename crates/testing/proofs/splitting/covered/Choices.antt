@@ -1,7 +1,7 @@
 -- The answer is that for the sets still to come.
 use mathlib.Core.Path.{_≡_}
 use lib.ListN.{drop}
-use Rattle.lts.specs.Families.{covered}
+use Rattle.traces.specs.Families.{covered}
 use Rattle.testing.specs.Judging.{numbers}
 use Rattle.testing.proofs.splitting.covered.Given as given
 

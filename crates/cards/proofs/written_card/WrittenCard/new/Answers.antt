@@ -14,7 +14,7 @@ ghost-result c =
     let t = c .in-Continue-table .ensures tt in (
       (omega arith, omega arith, omega arith),
       (
-        ap (linesFit 1) (m .0),
+        ap (linesFit _) (m .0),
         (
           ap (λ (ls : List Line). rising 0 (map lineWord ls)) (m .0),
           (

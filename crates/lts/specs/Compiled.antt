@@ -1,7 +1,0 @@
--- What a compiled system means. Assumes nothing.
-use Rattle.lts.specs.System.{System}
-use Rattle.lts.specs.Transitions.{tableOf}
-use Rattle.lts.specs.declared.compiled.Compiled.{Compiled}
-
-abbrev pub systemOf : Compiled → System
-systemOf c = tableOf (c .transitions)

@@ -1,0 +1,3 @@
+// Examples of where a trace leads.
+#[cfg(test)]
+mod tests;

@@ -1,0 +1,11 @@
+pub mod Walks
+pub mod Macrostates
+pub mod Families
+pub mod Graphs
+pub mod NodeTables
+pub mod Tables
+pub mod Derived
+pub mod Transitions
+pub mod Compiled
+pub mod Offered
+pub mod Shown
