@@ -1,3 +1,5 @@
 pub mod Appending
 pub mod Hex
+pub mod Known
+pub mod Lists
 pub mod Pieces
