@@ -6,8 +6,8 @@ use Prim.Native.Nat.{ℕ}
 use lib.Chars.{codes}
 use Rattle.lts.specs.Sets.{members}
 use Rattle.lts.specs.System.{System}
-use Rattle.lts.specs.Macrostates.{Macrostate, macrostate}
-use Rattle.lts.specs.Families.{minimal}
+use Rattle.traces.specs.Macrostates.{Macrostate, macrostate}
+use Rattle.traces.specs.Families.{minimal}
 use Rattle.printing.specs.Trails.{numbersText, convergentText, acceptsText, macrostateText, knownText}
 use Rattle.printing.proofs.Pieces.{whole}
 

@@ -10,7 +10,7 @@ use lib.ListN.{length, getD, drop}
 use Rattle.std.specs.Written.{decimal}
 use Rattle.std.proofs.shelf.Lists.{drop-all, drop-more}
 use Rattle.lts.specs.Sets.{members}
-use Rattle.lts.specs.Offered.{bitsOf}
+use Rattle.traces.specs.Offered.{bitsOf}
 use Rattle.lts.specs.declared.sets.ActionSet.{ActionSet}
 use Rattle.printing.specs.Shown.{newline}
 use Rattle.printing.specs.Trails.{blankedText, numbersText, acceptsText}

@@ -8,8 +8,8 @@ use Rattle.std.specs.declared.result.Result.{Result}
 use Rattle.std.specs.declared.result.Result.the-variants.{Ok, Err}
 use Rattle.lts.specs.Sets.{members}
 use Rattle.lts.specs.System.{System}
-use Rattle.lts.specs.Macrostates.{Macrostate, macrostate}
-use Rattle.lts.specs.Families.{minimal}
+use Rattle.traces.specs.Macrostates.{Macrostate, macrostate}
+use Rattle.traces.specs.Families.{minimal}
 use Rattle.cards.specs.declared.faults.CardFault.{CardFault}
 use Rattle.cards.specs.declared.lines.Role.the-variants.{Card}
 use Rattle.cards.specs.Bytes.{readBytes}

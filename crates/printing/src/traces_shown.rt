@@ -6,20 +6,20 @@ ghost use Rattle.std.specs.Of.String.{string-bytes};
 ghost use Rattle.std.specs.Vec.{made};
 ghost use Rattle.std.specs.Written.{decimal};
 ghost use Rattle.lts.specs.Sets.{members as membersOf};
-ghost use Rattle.lts.specs.Offered.{bitsOf};
+ghost use Rattle.traces.specs.Offered.{bitsOf};
 ghost use Rattle.printing.specs.Trails.{blankedText, numbersText, convergentText, acceptsText, knownText, traceText};
 use crate::cards_shown::fault_text;
 use cards::card_calls::WrittenCardLts;
 use cards::written_card::WrittenCard;
-use lts::compile::compile_lent;
-use lts::compiled::Compiled;
-use lts::family::Family;
 use lts::members::Members;
 use lts::members::MembersIterator;
 use lts::sets::ActionSet;
 use lts::system::Lts;
 use std::alloc::AllocError;
 use std::alloc::Global;
+use traces::compile::compile_lent;
+use traces::compiled::Compiled;
+use traces::family::Family;
 
 fn push_number(heap: Global, text: &mut String, number: usize) -> Result<(), AllocError>
     ensures { λ r. ⌜ made r (λ _. string-bytes (now (text .exit)) ≡ string-bytes (now (text .entry)) ++ (codes " " ++ decimal number)) ⌝ }

@@ -4,9 +4,9 @@ use Prim.Native.Nat.{ℕ}
 use Rattle.std.specs.Of.String.{string-bytes}
 use Rattle.std.specs.Of.Vec.{vec-items}
 use Rattle.lts.specs.Sets.{members}
-use Rattle.lts.specs.Offered.{bitsOf}
-use Rattle.lts.specs.Compiled.{systemOf}
-use Rattle.lts.specs.Shown.{shown}
+use Rattle.traces.specs.Offered.{bitsOf}
+use Rattle.traces.specs.Compiled.{systemOf}
+use Rattle.traces.specs.Shown.{shown}
 use Rattle.lts.specs.declared.sets.ActionSet.{ActionSet}
 use Rattle.printing.specs.Trails.{numbersText, acceptsText}
 use Rattle.printing.proofs.Known.{known, pieces}

@@ -5,7 +5,7 @@ use Prim.Native.Nat.{ℕ, _+_}
 use lib.Chars.{codes}
 use lib.ListN.{drop}
 use Rattle.std.specs.Of.String.{string-bytes}
-use Rattle.lts.specs.Offered.{bitsOf}
+use Rattle.traces.specs.Offered.{bitsOf}
 use Rattle.lts.specs.Sets.{members}
 use Rattle.printing.specs.Shown.{newline}
 use Rattle.printing.specs.Trails.{acceptsText, numbersText}

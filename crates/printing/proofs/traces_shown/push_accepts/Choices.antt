@@ -2,7 +2,7 @@ use mathlib.Core.Path.{_≡_}
 use mathlib.Core.List.{_++_}
 use lib.ListN.{drop}
 use Rattle.std.specs.Of.String.{string-bytes}
-use Rattle.lts.specs.Offered.{bitsOf}
+use Rattle.traces.specs.Offered.{bitsOf}
 use Rattle.printing.specs.Trails.{acceptsText}
 use Rattle.printing.proofs.traces_shown.push_accepts.Given as given
 
