@@ -1,3 +1,4 @@
 pub mod Numerals
 pub mod Shown
+pub mod Systems
 pub mod Trails
