@@ -104,7 +104,7 @@ pub fn trace_text(heap: Global, bytes: &[u8], trace: &[u8]) -> Result<String, Al
 {
     let mut card = WrittenCard::new(heap)?;
     match card.read_bytes(bytes) {
-        Ok(()) => known_text(heap, &card, bytes),
+        Ok(()) => known_text(heap, &card, trace),
         Err(fault) => fault_text(heap, fault),
     }
 }
