@@ -1,4 +1,6 @@
 // Shows what a card file is, `card_show FILE`, or where a trace leads, `card_show FILE ACTION...`; `card_show --two-counters` shows a built-in composition.
+#![tactic(auto)]
+
 use anyhow::anyhow;
 use input::read_start;
 use layers::counter::Counter;

@@ -1,4 +1,6 @@
 // Cards: systems and tests that are written down as words.
+#![tactic(auto)]
+
 mod bytes;
 pub mod card_calls;
 mod collecting;

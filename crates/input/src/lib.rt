@@ -1,4 +1,6 @@
 // Files of bytes, as the programs read them.
+#![tactic(auto)]
+
 ghost use Rattle.std.specs.Prelude.{◌≤◌, length};
 
 use std::fs::File;

@@ -1,4 +1,6 @@
 // Ready-made systems, and layers over systems.
+#![tactic(auto)]
+
 pub mod counter;
 pub mod hide;
 pub mod parallel;

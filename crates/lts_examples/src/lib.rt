@@ -1,3 +1,5 @@
 // Examples of where a trace leads.
+#![tactic(auto)]
+
 #[cfg(test)]
 mod tests;

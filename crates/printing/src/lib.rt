@@ -1,4 +1,6 @@
 // Text that people read.
+#![tactic(auto)]
+
 pub mod cards_shown;
 mod numerals;
 pub mod systems_shown;

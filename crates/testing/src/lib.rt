@@ -1,4 +1,6 @@
 // Testing: why a trace splits two systems, and the theorems that tie traces to tests.
+#![tactic(auto)]
+
 pub mod ground;
 pub mod passing;
 pub mod splitting;

@@ -1,4 +1,6 @@
 // Where a trace leads: finite graphs, compiled systems, macrostates and acceptance families.
+#![tactic(auto)]
+
 pub mod compile;
 pub mod compiled;
 mod derive;

@@ -1,4 +1,6 @@
 // The tests of the libraries. They have a crate of their own, since a crate with tests is proved twice.
+#![tactic(auto)]
+
 #[cfg(test)]
 mod accepted;
 #[cfg(test)]
