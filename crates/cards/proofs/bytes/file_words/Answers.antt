@@ -10,10 +10,10 @@ loop-place-preserved c =
     let ws = c.loop-place.words in
     let i = c.loop-place.place in
     let room : i < length ws = omega (arith, c.loop-place.invariant.0) in (
-      length-set ws i c.word-at.result ∙ c.loop-place.invariant.0,
+      length-set ws i c.word_at.result ∙ c.loop-place.invariant.0,
       below_more _ _
-          (λ k h. let ne : k ≢ i = omega arith in get_or-set_other ws i k c.word-at.result 0 ne ∙ c.loop-place.invariant.1 k h)
-          (get_or-set_same ws i c.word-at.result 0 room ∙ c.word-at.ensures),
+          (λ k h. let ne : k ≢ i = omega arith in get_or-set_other ws i k c.word_at.result 0 ne ∙ c.loop-place.invariant.1 k h)
+          (get_or-set_same ws i c.word_at.result 0 room ∙ c.word_at.ensures),
     )
 
 pub returns : goal.returns

@@ -3,17 +3,17 @@ use Rattle.std.proofs.lemmas.Result.{err_from_is_err_and}
 use Rattle.cards.proofs.Files.{front, faulty, left_over, none_left}
 use Rattle.cards.proofs.bytes.take_words.Goals as goal
 
-pub returns-in-err-check : goal.returns-in-err-check
-returns-in-err-check c =
-    let e = front c.file-words-count.result c.file-words-count.new.words _ c.file-words-count.ensures.words in
+pub returns-in_err-check : goal.returns-in_err-check
+returns-in_err-check c =
+    let e = front c.file_words-count.result c.file_words-count.new.words _ c.file_words-count.ensures.words in
     let p = err_from_is_err_and c.from-residual.result c.from-residual.ensures.1 in
-    rw (p.1, p.2) (faulty c.args.role c.args.bytes.now _ e _ c.in-err-check.ensures)
+    rw (p.1, p.2) (faulty c.args.role c.args.bytes.now _ e _ c.in_err-check.ensures)
 
 pub returns-then-left-gt0 : goal.returns-then-left-gt0
 returns-then-left-gt0 c =
-    let e = front c.file-words-count.result c.file-words-count.new.words _ c.file-words-count.ensures.words in
-    left_over c.args.role c.args.bytes.now _ e c.in-ok-check.field-0 c.file-words-count.result c.in-ok-check.ensures
-    (omega (arith, c.min-left.ensures)) c.file-words-count.ensures.count
+    let e = front c.file_words-count.result c.file_words-count.new.words _ c.file_words-count.ensures.words in
+    left_over c.args.role c.args.bytes.now _ e c.in_ok-check.field-0 c.file_words-count.result c.in_ok-check.ensures
+    (omega (arith, c.min-left.ensures)) c.file_words-count.ensures.count
 
 pub returns : goal.returns
-returns c = (c.file-words-count.ensures.below, c.file-words-count.ensures.words, none_left c.args.role c.args.bytes.now (omega (arith, c.min-left.ensures)))
+returns c = (c.file_words-count.ensures.below, c.file_words-count.ensures.words, none_left c.args.role c.args.bytes.now (omega (arith, c.min-left.ensures)))

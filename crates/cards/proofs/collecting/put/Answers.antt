@@ -6,8 +6,8 @@ use Rattle.cards.specs.Contents.{with_all}
 use Rattle.cards.specs.Reading.{as_line, as_passing}
 use Rattle.cards.proofs.collecting.put.Goals as goal
 
-pub push-reserved-requires : goal.push-reserved-requires
-push-reserved-requires c =
+pub push_reserved-requires : goal.push_reserved-requires
+push_reserved-requires c =
     let items = c.args.lines.now.items in
     let e = ap (λ (x : Word). length (items ++ as_line (Some x) [])) c.in-Line.is in
     omega (arith, e, c.requires, length-append items (c.in-Line.line ∷ []), c.args.lines.now.ok.0)
@@ -15,8 +15,8 @@ push-reserved-requires c =
 pub returns-in-Line : goal.returns-in-Line
 unfolding with_all
 returns-in-Line c = record {
-  lines = c.push-reserved.ensures.items ∙ ap (λ (x : Word). c.args.lines.now.items ++ as_line (Some x) []) (sym c.in-Line.is);
-  room = c.push-reserved.ensures.capacity;
+  lines = c.push_reserved.ensures.items ∙ ap (λ (x : Word). c.args.lines.now.items ++ as_line (Some x) []) (sym c.in-Line.is);
+  room = c.push_reserved.ensures.capacity;
   passing = ap (λ (x : Word). with_all c.args.passing.now.bits (as_passing (Some x) [])) (sym c.in-Line.is);
 }
 

@@ -2,9 +2,9 @@ use Rattle.std.proofs.Common.{rules}
 use Rattle.cards.specs.Words.{decode}
 use Rattle.cards.proofs.words.decode.Goals as goal
 
-pub returns-in-err-part : goal.returns-in-err-part
+pub returns-in_err-part : goal.returns-in_err-part
 unfolding decode
-returns-in-err-part c = search rules
+returns-in_err-part c = search rules
 
 pub returns-then-encode-word : goal.returns-then-encode-word
 unfolding decode

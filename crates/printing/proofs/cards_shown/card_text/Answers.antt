@@ -10,6 +10,6 @@ pub returns : goal.returns
 unfolding card_text
 returns c =
     let s = contents c.args.card.now in
-    whole (head_text s) (lines_text s.lines) (codes "words") (words_text (written s)) newline _ _ _ _ _ c.in-ok-text.ensures
-    (c.in-ok-push-lines.ensures ∙ ap (λ (ls : List Line). string_bytes c.in-ok-text.text ++ lines_text ls) c.lines.ensures)
-    c.in-ok-push-str.ensures.bytes c.in-ok-push-written.ensures c.in-ok-push-str-2.ensures.bytes
+    whole (head_text s) (lines_text s.lines) (codes "words") (words_text (written s)) newline _ _ _ _ _ c.in_ok-text.ensures
+    (c.in_ok-push_lines.ensures ∙ ap (λ (ls : List Line). string_bytes c.in_ok-text.text ++ lines_text ls) c.lines.ensures)
+    c.in_ok-push_str.ensures.bytes c.in_ok-push_written.ensures c.in_ok-push_str-2.ensures.bytes

@@ -12,8 +12,8 @@ loop-state-preserved g c =
     let p = c.loop-state.state in
     let n = c.count-count.result in
     let old = string_bytes c.loop-state.text in
-    appended _ old (string_bytes c.push-targets.new.text) (f p) (text_from f p (n - p)) (text_from f (p + 1) (n - (p + 1))) c.loop-state.invariant (from_next f p n (omega arith))
-    (c.in-ok-push-targets.ensures ∙ ap (λ (s : ℕ). old ++ targets_text p Silent (members s)) (c.members.ensures.value ∙ c.hidden.ensures))
+    appended _ old (string_bytes c.push_targets.new.text) (f p) (text_from f p (n - p)) (text_from f (p + 1) (n - (p + 1))) c.loop-state.invariant (from_next f p n (omega arith))
+    (c.in_ok-push_targets.ensures ∙ ap (λ (s : ℕ). old ++ targets_text p Silent (members s)) (c.members.ensures.value ∙ c.hidden.ensures))
 
 pub returns : goal.returns
 returns g c =

@@ -12,8 +12,8 @@ loop-place-preserved g c =
     let k = c.loop-place.place in
     let n = 32 * c.count-places.result in
     let old = string_bytes c.loop-place.text in
-    appended _ old (string_bytes c.push-targets.new.text) (f k) (text_from f k (n - k)) (text_from f (k + 1) (n - (k + 1))) c.loop-place.invariant (from_next f k n (omega arith))
-    (c.in-ok-push-targets.ensures ∙ ap (λ (s : ℕ). old ++ targets_text (k / 32) (Action (k % 32)) (members s)) (c.members-targets.ensures.value ∙ c.visible.ensures))
+    appended _ old (string_bytes c.push_targets.new.text) (f k) (text_from f k (n - k)) (text_from f (k + 1) (n - (k + 1))) c.loop-place.invariant (from_next f k n (omega arith))
+    (c.in_ok-push_targets.ensures ∙ ap (λ (s : ℕ). old ++ targets_text (k / 32) (Action (k % 32)) (members s)) (c.members-targets.ensures.value ∙ c.visible.ensures))
 
 pub returns : goal.returns
 returns g c =

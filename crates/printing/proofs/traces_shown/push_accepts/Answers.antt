@@ -12,12 +12,12 @@ loop-set-preserved c =
     let ls = c.args.sets.now in
     let i = c.loop-set.set-index in
     let old = string_bytes c.loop-set.text in
-    appended _ old (string_bytes c.push-str-in-loop-set.new.self) _ (accepts_text (bits_of (drop i ls))) (accepts_text (bits_of (drop (i + 1) ls))) c.loop-set.invariant
+    appended _ old (string_bytes c.push_str-in-loop-set.new.self) _ (accepts_text (bits_of (drop i ls))) (accepts_text (bits_of (drop (i + 1) ls))) c.loop-set.invariant
     (sets_next ls i (record { bits = 0 }) (omega arith))
-    (appended_three old (codes "accepts") _ newline (string_bytes c.push-str.new.self) (string_bytes c.push-members.new.text) (string_bytes c.push-str-in-loop-set.new.self)
-    c.in-ok-push-str.ensures.bytes
-    (c.in-ok-push-members.ensures ∙ ap (λ (s : ℕ). string_bytes c.push-str.new.self ++ numbers_text (members s)) c.members.ensures.value)
-    c.in-ok-push-str-2.ensures.bytes)
+    (appended_three old (codes "accepts") _ newline (string_bytes c.push_str.new.self) (string_bytes c.push_members.new.text) (string_bytes c.push_str-in-loop-set.new.self)
+    c.in_ok-push_str.ensures.bytes
+    (c.in_ok-push_members.ensures ∙ ap (λ (s : ℕ). string_bytes c.push_str.new.self ++ numbers_text (members s)) c.members.ensures.value)
+    c.in_ok-push_str-2.ensures.bytes)
 
 pub returns : goal.returns
 returns c = appended_all _ (string_bytes c.loop-set.text) _ c.loop-set.invariant (sets_done c.args.sets.now c.loop-set.set-index (omega arith))

@@ -2,7 +2,7 @@ use Rattle.std.proofs.Common.{◌≡◌, ◌<◌, length, vec_items, vec_len, ve
 use Rattle.traces.specs.Offered.{bits_of, free}
 use Rattle.std.proofs.lemmas.List.Filters.{FiltersInPlace, FiltersInPlace-all, FiltersInPlace-more_no, FiltersInPlace-more_set}
 use Rattle.traces.proofs.FamilySteps.{without_kept, free_if}
-use Rattle.traces.proofs.family.drop_containing.Goals.{then-not-is-within, else-not-is-within}
+use Rattle.traces.proofs.family.drop_containing.Goals.{then-not-is_within, else-not-is_within}
 use Rattle.traces.proofs.family.drop_containing.Goals as goal
 
 pub index-mut-requires : goal.index-mut-requires
@@ -11,13 +11,13 @@ index-mut-requires c = omega (arith, c.loop-i.invariant.0.behind, c.loop-i.invar
 pub loop-i-preserved : goal.loop-i-preserved
 loop-i-preserved c =
     let here : c.loop-i.i < length (vec_items c.loop-i.sets) = omega (arith, c.loop-i.sets.ok.0, c.loop-i.invariant.2) in
-    elim c.if-not-is-within.branch [
-      | then-not-is-within w ↦
+    elim c.if-not-is_within.branch [
+      | then-not-is_within w ↦
           rw (w.sets-is, w.left-is)
-          (FiltersInPlace-more_set c.loop-i.invariant.0 here (free_if _ _ _ (sym w.if-not-is-within.ensures)) c.index-set.ensures, c.loop-i.invariant.1, c.loop-i.invariant.2)
-      | else-not-is-within w ↦
+          (FiltersInPlace-more_set c.loop-i.invariant.0 here (free_if _ _ _ (sym w.if-not-is_within.ensures)) c.index-set.ensures, c.loop-i.invariant.1, c.loop-i.invariant.2)
+      | else-not-is_within w ↦
           rw (w.sets-is, w.left-is)
-          (FiltersInPlace-more_no c.loop-i.invariant.0 here (free_if _ _ _ (sym w.if-not-is-within.ensures)) c.index-set.ensures, c.loop-i.invariant.1, c.loop-i.invariant.2)
+          (FiltersInPlace-more_no c.loop-i.invariant.0 here (free_if _ _ _ (sym w.if-not-is_within.ensures)) c.index-set.ensures, c.loop-i.invariant.1, c.loop-i.invariant.2)
     ]
 
 pub returns : goal.returns

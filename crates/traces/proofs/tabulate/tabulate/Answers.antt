@@ -7,8 +7,8 @@ invariant-of-result g c =
     let m = g.S.Lts.meaning c.args.system.now in
     let lawful = g.met.S.Lts.lawful c.args.system.now in
     let small = g.met.S.Lts.small c.args.system.now in
-    let v = c.in-ok-visible.ensures in
-    let h = c.in-ok-hidden.ensures in
+    let v = c.in_ok-visible.ensures in
+    let h = c.in_ok-hidden.ensures in
     let count = c.count.ensures in
     let start = c.start.ensures in
     let starts = lawful.starts in (
@@ -16,13 +16,13 @@ invariant-of-result g c =
       (
         omega arith,
         (
-          c.in-ok-visible.visible.ok.0 ∙ (v.length ∙ ap (λ n. 32 * n) (sym count)),
+          c.in_ok-visible.visible.ok.0 ∙ (v.length ∙ ap (λ n. 32 * n) (sym count)),
           (
-            c.in-ok-hidden.hidden.ok.0 ∙ (h.length ∙ sym count),
+            c.in_ok-hidden.hidden.ok.0 ∙ (h.length ∙ sym count),
             (
-              visible_within m lawful c.count.result (vec_items c.in-ok-visible.visible) count v,
+              visible_within m lawful c.count.result (vec_items c.in_ok-visible.visible) count v,
               (
-                hidden_within m lawful c.count.result (vec_items c.in-ok-hidden.hidden) count h,
+                hidden_within m lawful c.count.result (vec_items c.in_ok-hidden.hidden) count h,
                 tt,
               ),
             ),
@@ -34,4 +34,4 @@ invariant-of-result g c =
 pub returns : goal.returns
 returns g c =
     tabled_same (g.S.Lts.meaning c.args.system.now) (g.met.S.Lts.lawful c.args.system.now) _ _ _ _ c.count.ensures c.start.ensures
-    c.in-ok-visible.ensures c.in-ok-hidden.ensures
+    c.in_ok-visible.ensures c.in_ok-hidden.ensures

@@ -8,8 +8,8 @@ use Rattle.cards.proofs.written_card.WrittenCard.new.Goals as goal
 pub invariant-of-result : goal.invariant-of-result
 unfolding lines_fit rising
 invariant-of-result c =
-    let m = c.in-ok-lines.ensures in
-    let t = c.in-ok-table.ensures in (
+    let m = c.in_ok-lines.ensures in
+    let t = c.in_ok-table.ensures in (
       (omega arith, omega arith, omega arith),
       (
         ap (lines_fit _) m.items,

@@ -9,8 +9,8 @@ use Rattle.cards.proofs.written_card.WrittenCard.read.Goals as goal
 pub returns : goal.returns
 returns c =
     let ws = c.args.words.now in
-    let card = c.read-as.new.self in
-    let taken = c.in-ok-read-as.ensures.taken in
+    let card = c.read_as.new.self in
+    let taken = c.in_ok-read_as.ensures.taken in
     let none = (read_valid Card ws _ taken).allowed refl in
     let e : read_words Card ws ≡ Ok (contents card) = taken ∙ ap (λ (p : ℕ). Ok (contents_with p card)) none in
     record {

@@ -8,22 +8,22 @@ use Rattle.cards.specs.RoundTrip.{taken_sized, taken_counted, taken_fit, taken_r
 use Rattle.cards.specs.Tabled.{lines_fit_wider}
 use Rattle.cards.proofs.written_card.WrittenCard.read_as.Goals as goal
 
-pub returns-in-err-head : goal.returns-in-err-head
+pub returns-in_err-head : goal.returns-in_err-head
 unfolding read_words
-returns-in-err-head c =
-    let e = c.in-err-head.ensures in
+returns-in_err-head c =
+    let e = c.in_err-head.ensures in
     let p = err_from_is_err_and c.from-residual.result c.from-residual.ensures.1 in
     record { taken = rw (p.1, p.2) (ap (held c.args.words.now) (sym e)); kept = rw p.1 refl }
 
 pub collect-passing-requires : goal.collect-passing-requires
 collect-passing-requires c =
-    let e = sym c.in-ok-head.ensures in
-    omega (arith, taken_counted c.args.role c.args.words.now c.in-ok-head.head e, (taken_sized c.args.role c.args.words.now c.in-ok-head.head e).few, c.args.self.now.few.1)
+    let e = sym c.in_ok-head.ensures in
+    omega (arith, taken_counted c.args.role c.args.words.now c.in_ok-head.head e, (taken_sized c.args.role c.args.words.now c.in_ok-head.head e).few, c.args.self.now.few.1)
 
-pub fill-table-requires : goal.fill-table-requires
-fill-table-requires c =
-    let e = sym c.in-ok-head.ensures in
-    let h = c.in-ok-head.head in
+pub fill_table-requires : goal.fill_table-requires
+fill_table-requires c =
+    let e = sym c.in_ok-head.ensures in
+    let h = c.in_ok-head.head in
     record {
       wide = c.args.self.now.wide;
       sound =
@@ -33,8 +33,8 @@ fill-table-requires c =
 
 pub invariant-of-self : goal.invariant-of-self
 invariant-of-self c =
-    let e = sym c.in-ok-head.ensures in
-    let h = c.in-ok-head.head in
+    let e = sym c.in_ok-head.ensures in
+    let h = c.in_ok-head.head in
     let s = taken_sized c.args.role c.args.words.now h e in
     let l = c.collect-passing.ensures.lines in
     let n = taken_counted c.args.role c.args.words.now h e in (
@@ -46,8 +46,8 @@ invariant-of-self c =
           (
             (omega (arith, c.collect-passing.new.lines.ok.0, ap length l, n, s.few), omega (arith, c.collect-passing.ensures.room, c.args.self.now.few.1)),
             (
-              c.fill-table.ensures.len ∙ c.args.self.now.wide,
-              (λ i. c.fill-table.ensures.tabled i ∙ ap (λ (ls : List Line). targets ls (i / 33) (i % 33)) c.deref.ensures.value, tt),
+              c.fill_table.ensures.len ∙ c.args.self.now.wide,
+              (λ i. c.fill_table.ensures.tabled i ∙ ap (λ (ls : List Line). targets ls (i / 33) (i % 33)) c.deref.ensures.value, tt),
             ),
           ),
         ),
@@ -57,11 +57,11 @@ invariant-of-self c =
 pub returns : goal.returns
 unfolding read_words
 returns c =
-    let e = sym c.in-ok-head.ensures in
+    let e = sym c.in_ok-head.ensures in
     record {
       taken =
           ap (held c.args.words.now) e
-          ∙ ap₂ (λ (ls : List Line) (p : ℕ). Ok (record { states = c.in-ok-head.head.states; start = c.in-ok-head.head.start; lines = ls; passing = p }))
+          ∙ ap₂ (λ (ls : List Line) (p : ℕ). Ok (record { states = c.in_ok-head.head.states; start = c.in_ok-head.head.start; lines = ls; passing = p }))
           (sym c.collect-passing.ensures.lines) (sym c.collect-passing.ensures.passing);
       kept = tt;
     }

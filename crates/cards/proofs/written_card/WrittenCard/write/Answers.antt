@@ -15,8 +15,8 @@ returns c =
     let out = c.args.out.now in
     let none = c.empty.ensures in
     record {
-      told = c.write-as.ensures.told ∙ ap (λ (p : ℕ). wrote (written (contents_with p card)) out) none;
-      after = c.write-as.ensures.after ∙ ap (λ (p : ℕ). buffer (written (contents_with p card)) out) none;
+      told = c.write_as.ensures.told ∙ ap (λ (p : ℕ). wrote (written (contents_with p card)) out) none;
+      after = c.write_as.ensures.after ∙ ap (λ (p : ℕ). buffer (written (contents_with p card)) out) none;
       again = read_written Card (contents card) (held_valid Card 0 card (pow_pos card.states) (λ _. refl));
       few = omega (arith, written_length (contents card), ap length (members_none 0 64), card.few.0, card.lines.ok.0);
     }

@@ -8,8 +8,8 @@ use Rattle.cards.specs.Words.{line_word, head_word, passing_word, end_word}
 use Rattle.cards.proofs.Laid.{laid_whole, written_length, short, long}
 use Rattle.cards.proofs.written_card.WrittenCard.write_as.Goals as goal
 
-pub overflow-add-end-2 : goal.overflow-add-end-2
-overflow-add-end-2 c = omega (arith, c.len.ensures.bound, c.len-lines.ensures, c.args.self.now.few.0)
+pub overflow_add-end-2 : goal.overflow_add-end-2
+overflow_add-end-2 c = omega (arith, c.len.ensures.bound, c.len-lines.ensures, c.args.self.now.few.0)
 
 pub returns-then-out-end : goal.returns-then-out-end
 returns-then-out-end c =
@@ -29,10 +29,10 @@ returns c =
     let put : ℕ = 0x1000_0000 + c.len-lines.result * 0x1_0000 + card.start * 0x100 + card.states in
     let same : put ≡ head = omega arith in
     let whole =
-    laid_whole head end_word c.len-lines.result c.len.result (map line_word card.lines.items) (map passing_word (members c.args.passing.bits)) c.args.out.now (set c.args.out.now 0 put) c.write-lines.new.out c.write-passing.new.out
+    laid_whole head end_word c.len-lines.result c.len.result (map line_word card.lines.items) (map passing_word (members c.args.passing.bits)) c.args.out.now (set c.args.out.now 0 put) c.write_lines.new.out c.write_passing.new.out
     (length-map card.lines.items line_word ∙ n) (length-map (members c.args.passing.bits) passing_word ∙ sym k) (omega arith)
-    (ap (set c.args.out.now 0) same) (c.write-lines.ensures ∙ ap (λ (ls : List Line). laid 1 (map line_word ls) (set c.args.out.now 0 put)) c.deref.ensures.value) c.write-passing.ensures in
+    (ap (set c.args.out.now 0) same) (c.write_lines.ensures ∙ ap (λ (ls : List Line). laid 1 (map line_word ls) (set c.args.out.now 0 put)) c.deref.ensures.value) c.write_passing.ensures in
     let r =
-    long (written s) c.args.out.now (set c.write-passing.new.out (1 + c.len-lines.result + c.len.result) c.encode.result) (1 + c.len-lines.result + c.len.result + 1) (omega arith) (omega arith)
-    (ap (set c.write-passing.new.out (1 + c.len-lines.result + c.len.result)) c.encode.ensures ∙ whole) in
+    long (written s) c.args.out.now (set c.write_passing.new.out (1 + c.len-lines.result + c.len.result) c.encode.result) (1 + c.len-lines.result + c.len.result + 1) (omega arith) (omega arith)
+    (ap (set c.write_passing.new.out (1 + c.len-lines.result + c.len.result)) c.encode.ensures ∙ whole) in
     record { told = r.0; after = r.1 }

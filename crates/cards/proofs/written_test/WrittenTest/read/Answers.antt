@@ -7,13 +7,13 @@ use Rattle.cards.specs.RoundTrip.{read_back, read_valid}
 use Rattle.cards.proofs.written_test.WrittenTest.read.Goals as goal
 
 pub invariant-of-self-2 : goal.invariant-of-self-2
-invariant-of-self-2 c = ((read_valid Test c.args.words.now _ c.in-ok-self.ensures.taken).passing, tt)
+invariant-of-self-2 c = ((read_valid Test c.args.words.now _ c.in_ok-self.ensures.taken).passing, tt)
 
 pub returns : goal.returns
 returns c =
     let ws = c.args.words.now in
-    let e = c.in-ok-self.ensures.taken in
-    let now = contents_with c.in-ok-self.field-0.bits c.read-as.new.self in
+    let e = c.in_ok-self.ensures.taken in
+    let now = contents_with c.in_ok-self.field-0.bits c.read_as.new.self in
     record {
       told = sym (ap told e);
       after = sym (ap (after (test_contents c.args.self.now)) e);

@@ -16,8 +16,8 @@ returns c =
     let t = c.args.self.now in
     let wide : 2 ^ t.card.states ≤ 2 ^ 64 = pow_mono t.card.sized.1 in
     record {
-      told = c.write-as.ensures.told;
-      after = c.write-as.ensures.after;
+      told = c.write_as.ensures.told;
+      after = c.write_as.ensures.after;
       again = read_written Test (test_contents t) (held_valid Test t.passing.bits t.card t.within (λ e. absurd (not_false e)));
       few = omega (arith, written_length (test_contents t), members_few t.passing.bits (omega (arith, t.within)), t.card.few.0, t.card.lines.ok.0);
     }

@@ -4,4 +4,4 @@ use Rattle.testing.proofs.Apart.{sound_no}
 use Rattle.testing.proofs.ground.Ground.is_must.Goals as goal
 
 pub returns : goal.returns
-returns c = record { value = c.by-must.ensures; reach = reach_test_lem; settle = settle_test_lem; offer = offer_test_lem; no = sound_no }
+returns c = record { value = c.by_must.ensures; reach = reach_test_lem; settle = settle_test_lem; offer = offer_test_lem; no = sound_no }

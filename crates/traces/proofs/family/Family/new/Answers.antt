@@ -6,5 +6,5 @@ use Rattle.traces.proofs.family.Family.new.Goals as goal
 
 pub invariant-of-result : goal.invariant-of-result
 invariant-of-result c =
-    let made = c.in-ok-sets.ensures in
+    let made = c.in_ok-sets.ensures in
     (made.capacity, (omega (arith, made.len), (ap (λ l. antichain (bits_of l)) made.items ∙ antichain_none, tt)))
