@@ -1,9 +1,9 @@
 -- The members of a set, taken off from the lowest. Assumes nothing.
-use Rattle.std.proofs.Common.{◌≡◌, ℕ, zero, suc, ◌+◌, ◌-◌, ◌*◌, ◌/◌, ◌%◌, ◌^◌, ◌<◌, ◌≤◌, min, max, Bool, true, false, cond, eqb, ◌⊎◌, ◌↔◌, List, [], ◌∷◌, ◌++◌, map, length, sym, refl, ap, ◌∙◌, subst, ap₂, inl, inr, zero-le, pow-suc, div-one, arith}
+use Rattle.std.proofs.Common.{◌≡◌, ℕ, zero, suc, ◌+◌, ◌-◌, ◌/◌, ◌%◌, ◌^◌, ◌<◌, ◌≤◌, Bool, true, false, cond, eqb, ◌⊎◌, List, [], ◌∷◌, ◌++◌, map, length, sym, refl, ap, ◌∙◌, subst, ap₂, inl, inr, zero-le, pow-suc, div-one, arith}
 use mathlib.Core.List.{Memᴰ}
 use native.Mathlib.Nat.{zero-div}
 use lib.Bits.{bit_and, and_step, and_self, and_le_r}
-use lib.Count.{count_trailing_zeros, under, ones, ones_in, ones_step, ones-le}
+use lib.Count.{count_trailing_zeros, ones, ones_in, ones_step, ones-le}
 use lib.ListN.{length-map}
 use Rattle.std.proofs.lemmas.Bool.{cases_eq}
 use Rattle.lts.specs.Sets.{In, has, members_from, members, Above, Ascending, Lists}

@@ -1,5 +1,5 @@
 -- The laws of membership. Assumes nothing.
-use Rattle.std.proofs.Common.{◌≡◌, ℕ, zero, suc, ◌+◌, ◌*◌, ◌/◌, ◌%◌, ◌^◌, ◌<◌, ◌≤◌, Bool, true, false, cond, T, eqb, ◌≢◌, ◌⊎◌, sym, refl, ap, ◌∙◌, subst, ap₂, inl, inr, suc-le-suc, zero-le, le_of_suc-le-suc, not-suc-le-zero, pow-suc, div-one, one-add, arith, pow_pos, pow_mono, shr-shr, eq-eqb, ne_eqb, eqb-true}
+use Rattle.std.proofs.Common.{◌≡◌, ℕ, zero, suc, ◌+◌, ◌*◌, ◌/◌, ◌%◌, ◌^◌, ◌<◌, ◌≤◌, Bool, true, false, cond, T, ◌≢◌, ◌⊎◌, sym, refl, ap, ◌∙◌, subst, ap₂, inl, inr, suc-le-suc, zero-le, le_of_suc-le-suc, not-suc-le-zero, pow-suc, div-one, one-add, arith, pow_pos, pow_mono, shr-shr, eq-eqb, ne_eqb, eqb-true}
 use native.Mathlib.Nat.{div_self, div-eq_of_lt, zero-div}
 use native.Mathlib.Decide.{ℕ_discrete}
 use lib.Arith.{bin_ind}
