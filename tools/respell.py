@@ -55,7 +55,7 @@ def named(path, text):
             m = re.match(r"(?:(?:abbrev|unfoldable|pub|axiom) )*(" + NAME + r") : (.*)", line)
             if m and not (answers(path) and m.group(2).startswith("goal")):
                 yield m.group(1)
-            m = re.match(r"\s+(?:\| ?)?(?:pub )?(" + NAME + r") : ", line)
+            m = re.match(r"\s+(?:\| ?)?(?:(?:abbrev|unfoldable|pub) )*(" + NAME + r") : ", line)
             if m and not answers(path):
                 yield m.group(1)
     for m in re.finditer(r"\bas (" + NAME + ")", text):

@@ -180,14 +180,14 @@ module _ (s : List ℕ) (f : ℕ → Bool) (O : ℕ) where
 
 -- the test of Reach
 module _ (s : List ℕ) where
-  abbrev atEnd : ℕ → Bool
-  atEnd i = eqb i (length s)
+  abbrev at_end : ℕ → Bool
+  at_end i = eqb i (length s)
 
   -- its last state has no step
   over : {k x y : ℕ} {t : List ℕ} → Moves (reach_test s).system Any k x t y → x ≡ suc (length s) → t ≡ []
   over (rest h) e = refl
-  over (alone {x = x} {y = y} h j r) e = let b = (hidden_of s atEnd 0 x y j).0 in absurd (omega arith)
-  over (joint {x = x} {a = a} {y = y} h j r) e = elim (visible_of s atEnd 0 x a y j).1 [
+  over (alone {x = x} {y = y} h j r) e = let b = (hidden_of s at_end 0 x y j).0 in absurd (omega arith)
+  over (joint {x = x} {a = a} {y = y} h j r) e = elim (visible_of s at_end 0 x a y j).1 [
     | inl l ↦ (let b = leads_below s x a l in absurd (omega arith))
     | inr o ↦ absurd (omega arith)
   ]
@@ -195,10 +195,10 @@ module _ (s : List ℕ) where
   reached : {k i y : ℕ} {t : List ℕ} → Moves (reach_test s).system Any k i t y → y ≡ suc (length s) → i ≤ length s → t ≡ drop i s
   reached (rest h) e b = absurd (omega arith)
   reached (alone {x = i} {y = y} h j r) e b =
-      let c = hidden_of s atEnd 0 i y j in
+      let c = hidden_of s at_end 0 i y j in
       over r c.2 ∙ sym (drop-length s) ∙ ap (λ (x : ℕ). drop x s) (sym (eqb→eq i (length s) c.1))
   reached (joint {x = i} {a = a} {y = y} {s = t} h j r) e b =
-      let v = visible_of s atEnd 0 i a y j in
+      let v = visible_of s at_end 0 i a y j in
       elim v.1 [
         | inl l ↦
             (let lower = leads_below s i a l in
@@ -218,18 +218,18 @@ reach_test_lem m lawful s = (
   λ h.
       let t = passing_end m (reach_test s) h.run h.visits in
       let a = apart m (reach_test s) Any t.3 in
-      let e = reached s a.2.1 (passing_last s (atEnd s) 0 t.2 t.4) zero-le in
+      let e = reached s a.2.1 (passing_last s (at_end s) 0 t.2 t.4) zero-le in
       (t.1, subst (λ (u : List ℕ). After m u t.1) e a.1),
   λ h.
-      let up = climb s (atEnd s) 0 s 0 (path_actions m lawful h.1) refl zero-le in
-      let all = then_alone s up (of_hidden s (atEnd s) 0 (length s) (le_refl _) (eqb_refl (length s))) in
+      let up = climb s (at_end s) 0 s 0 (path_actions m lawful h.1) refl zero-le in
+      let all = then_alone s up (of_hidden s (at_end s) 0 (length s) (le_refl _) (eqb_refl (length s))) in
       let c = combine m (reach_test s) Any h.1 all.0 0 (suc (length s)) all.1 in
       record {
         steps = c.0;
         state = h.0;
         at = suc (length s);
         run = whole m (reach_test s) Any c.2;
-        visits = end_visits m (reach_test s) c.2 (last_passes s (atEnd s) 0 (suc (length s)) refl);
+        visits = end_visits m (reach_test s) c.2 (last_passes s (at_end s) 0 (suc (length s)) refl);
       },
 )
 

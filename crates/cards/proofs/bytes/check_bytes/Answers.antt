@@ -7,7 +7,7 @@ pub returns-in_err-check : goal.returns-in_err-check
 returns-in_err-check c =
     let t = c.in_ok-count.ensures in
     let e = front c.in_ok-count.count c.take_words.new.words _ t.1 in
-    let p = err_from_is_err_and c.from-residual-in_err-check.result c.from-residual-in_err-check.ensures.1 in
+    let p = err_from_is_err_and c.from_residual-in_err-check.result c.from_residual-in_err-check.ensures.1 in
     rw (p.1, p.2) (checked_bad c.args.role c.args.bytes.now _ e t.2 _ c.in_err-check.ensures)
 
 pub returns : goal.returns

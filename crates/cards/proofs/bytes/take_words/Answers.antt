@@ -6,7 +6,7 @@ use Rattle.cards.proofs.bytes.take_words.Goals as goal
 pub returns-in_err-check : goal.returns-in_err-check
 returns-in_err-check c =
     let e = front c.file_words-count.result c.file_words-count.new.words _ c.file_words-count.ensures.words in
-    let p = err_from_is_err_and c.from-residual.result c.from-residual.ensures.1 in
+    let p = err_from_is_err_and c.from_residual.result c.from_residual.ensures.1 in
     rw (p.1, p.2) (faulty c.args.role c.args.bytes.now _ e _ c.in_err-check.ensures)
 
 pub returns-then-left-gt0 : goal.returns-then-left-gt0

@@ -8,7 +8,7 @@ pub returns-in_err-progress : goal.returns-in_err-progress
 returns-in_err-progress c =
     let e = rw c.loop-word.invariant.0 at c.in_err-progress.ensures in
     let f = check_fault c.args.role c.args.words.now c.loop-word.word-index c.loop-word.progress _ (omega arith) e in
-    let p = err_from_is_err_and c.from-residual.result c.from-residual.ensures.1 in
+    let p = err_from_is_err_and c.from_residual.result c.from_residual.ensures.1 in
     rw (p.1, p.2) (sym (c.loop-word.invariant.1 ∙ f))
 
 pub loop-word-preserved : goal.loop-word-preserved

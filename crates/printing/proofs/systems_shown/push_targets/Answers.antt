@@ -19,7 +19,7 @@ loop-to-preserved c =
       tt,
       tt,
       appended _ old (string_bytes c.push_str.new.self) _ (targets_text p l rest) (targets_text p l left) c.loop-to.invariant.2
-          (targets_more p l rest left c.in_Some.to c.in_Some.ensures.steps)
+          (targets_more p l rest left c.in-Some.to c.in-Some.ensures.steps)
           (c.in_ok-push_str.ensures.bytes ∙ ap (λ (bs : List ℕ). old ++ bs) (c.as_str.ensures.value ∙ c.in_ok-line.ensures)),
     )
 
@@ -27,5 +27,5 @@ pub returns : goal.returns
 returns c =
     let p = c.args.from in
     let l = c.args.label in
-    appended_all _ (string_bytes c.loop-to.text) _ c.loop-to.invariant.2 (targets_none p l _ c.in_None.ensures.steps.0)
-    ∙ ap (λ (m : Members). string_bytes c.args.text.now ++ targets_text p l (members m.rest)) c.into-iter-to-iterator.ensures.into-iter-gives
+    appended_all _ (string_bytes c.loop-to.text) _ c.loop-to.invariant.2 (targets_none p l _ c.in-None.ensures.steps.0)
+    ∙ ap (λ (m : Members). string_bytes c.args.text.now ++ targets_text p l (members m.rest)) c.into_iter-to-iterator.ensures.into_iter-gives

@@ -2,8 +2,8 @@ use Rattle.std.proofs.Common.{◌≡◌, ◌*◌, ◌<◌, ◌≤◌, vec_items,
 use Rattle.traces.specs.Tabled.{tabled_same, visible_within, hidden_within}
 use Rattle.traces.proofs.tabulate.tabulate.Goals as goal
 
-pub invariant-of-result : goal.invariant-of-result
-invariant-of-result g c =
+pub invariant_of-result : goal.invariant_of-result
+invariant_of-result g c =
     let m = g.S.Lts.meaning c.args.system.now in
     let lawful = g.met.S.Lts.lawful c.args.system.now in
     let small = g.met.S.Lts.small c.args.system.now in

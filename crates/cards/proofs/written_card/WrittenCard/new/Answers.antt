@@ -5,9 +5,9 @@ use Rattle.cards.specs.Words.{line_word}
 use Rattle.cards.specs.Tabled.{tabled_none}
 use Rattle.cards.proofs.written_card.WrittenCard.new.Goals as goal
 
-pub invariant-of-result : goal.invariant-of-result
+pub invariant_of-result : goal.invariant_of-result
 unfolding lines_fit rising
-invariant-of-result c =
+invariant_of-result c =
     let m = c.in_ok-lines.ensures in
     let t = c.in_ok-table.ensures in (
       (omega arith, omega arith, omega arith),

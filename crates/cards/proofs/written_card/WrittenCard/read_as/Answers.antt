@@ -12,7 +12,7 @@ pub returns-in_err-head : goal.returns-in_err-head
 unfolding read_words
 returns-in_err-head c =
     let e = c.in_err-head.ensures in
-    let p = err_from_is_err_and c.from-residual.result c.from-residual.ensures.1 in
+    let p = err_from_is_err_and c.from_residual.result c.from_residual.ensures.1 in
     record { taken = rw (p.1, p.2) (ap (held c.args.words.now) (sym e)); kept = rw p.1 refl }
 
 pub collect-passing-requires : goal.collect-passing-requires
@@ -31,8 +31,8 @@ fill_table-requires c =
           ∙ lines_fit_wider h.states 64 _ (taken_sized c.args.role c.args.words.now h e).most (taken_fit c.args.role c.args.words.now h e);
     }
 
-pub invariant-of-self : goal.invariant-of-self
-invariant-of-self c =
+pub invariant_of-self : goal.invariant_of-self
+invariant_of-self c =
     let e = sym c.in_ok-head.ensures in
     let h = c.in_ok-head.head in
     let s = taken_sized c.args.role c.args.words.now h e in

@@ -6,8 +6,8 @@ use Rattle.cards.proofs.Named.{says_read, passing_read}
 use Rattle.cards.specs.RoundTrip.{read_back, read_valid}
 use Rattle.cards.proofs.written_test.WrittenTest.read.Goals as goal
 
-pub invariant-of-self-2 : goal.invariant-of-self-2
-invariant-of-self-2 c = ((read_valid Test c.args.words.now _ c.in_ok-self.ensures.taken).passing, tt)
+pub invariant_of-self-2 : goal.invariant_of-self-2
+invariant_of-self-2 c = ((read_valid Test c.args.words.now _ c.in_ok-self.ensures.taken).passing, tt)
 
 pub returns : goal.returns
 returns c =

@@ -4,8 +4,8 @@ use Rattle.traces.specs.Offered.{bits_of}
 use Rattle.traces.proofs.Antichains.{antichain_none}
 use Rattle.traces.proofs.family.Family.clear.Goals as goal
 
-pub invariant-of-self : goal.invariant-of-self
-invariant-of-self c =
+pub invariant_of-self : goal.invariant_of-self
+invariant_of-self c =
     let room = c.args.self.now.room in
     let few = c.args.self.now.few in
     (omega (arith, c.truncate.ensures.capacity), (omega (arith, c.truncate.ensures.len), (ap (λ l. antichain (bits_of l)) c.truncate.ensures.items ∙ antichain_none, tt)))

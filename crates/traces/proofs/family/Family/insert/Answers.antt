@@ -4,8 +4,8 @@ use Rattle.traces.specs.Offered.{bits_of}
 use Rattle.traces.proofs.Antichains.{offered_antichain}
 use Rattle.traces.proofs.family.Family.insert.Goals as goal
 
-pub invariant-of-self : goal.invariant-of-self
-invariant-of-self c =
+pub invariant_of-self : goal.invariant_of-self
+invariant_of-self c =
     let before = c.args.self.now in
     let room = before.room in
     let few = before.few in (

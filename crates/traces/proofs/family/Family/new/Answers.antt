@@ -4,7 +4,7 @@ use Rattle.traces.specs.Offered.{bits_of}
 use Rattle.traces.proofs.Antichains.{antichain_none}
 use Rattle.traces.proofs.family.Family.new.Goals as goal
 
-pub invariant-of-result : goal.invariant-of-result
-invariant-of-result c =
+pub invariant_of-result : goal.invariant_of-result
+invariant_of-result c =
     let made = c.in_ok-sets.ensures in
     (made.capacity, (omega (arith, made.len), (ap (λ l. antichain (bits_of l)) made.items ∙ antichain_none, tt)))
