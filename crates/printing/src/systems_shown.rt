@@ -37,7 +37,7 @@ fn push_targets(
 }
 
 fn push_visible<S: Lts>(heap: Global, text: &mut String, system: &S) -> Result<(), AllocError>
-    ensures { OnOk result (string_bytes text.new ≡ string_bytes text.old ++ text_from (visible_text (meaning system.now)) 0 (32 * (meaning system.now).count)) }
+    ensures { OnOk result (string_bytes text.new ≡ string_bytes text.old ++ text_from (visible_text (S.meaning system.now)) 0 (32 * (S.meaning system.now).count)) }
 {
     let places = 32 * system.count();
     for place in 0..places {
@@ -49,7 +49,7 @@ fn push_visible<S: Lts>(heap: Global, text: &mut String, system: &S) -> Result<(
 }
 
 fn push_silent<S: Lts>(heap: Global, text: &mut String, system: &S) -> Result<(), AllocError>
-    ensures { OnOk result (string_bytes text.new ≡ string_bytes text.old ++ text_from (silent_text (meaning system.now)) 0 (meaning system.now).count) }
+    ensures { OnOk result (string_bytes text.new ≡ string_bytes text.old ++ text_from (silent_text (S.meaning system.now)) 0 (S.meaning system.now).count) }
 {
     let count = system.count();
     for state in 0..count {
@@ -66,7 +66,7 @@ fn push_silent<S: Lts>(heap: Global, text: &mut String, system: &S) -> Result<()
 
 // What any kind of system is: its states and start, then each state's transitions by their actions, then the silent ones.
 pub fn system_text<S: Lts>(heap: Global, system: &S) -> Result<String, AllocError>
-    ensures { IfOk result (λ s. string_bytes s ≡ system_text (meaning system.now)) }
+    ensures { IfOk result (λ s. string_bytes s ≡ system_text (S.meaning system.now)) }
 {
     let states = system.count();
     let start = system.start();

@@ -76,7 +76,7 @@ fn push_accepts(heap: Global, text: &mut String, sets: &[ActionSet]) -> Result<(
 
 // What is known of any kind of system after a trace: the states that it may be in and, where it is convergent, the minimal acceptance sets.
 pub fn known_text<S: Lts>(heap: Global, system: &S, trace: &[u8]) -> Result<String, AllocError>
-    ensures { IfOk result (λ s. string_bytes s ≡ known_text (meaning system.now) trace.now) }
+    ensures { IfOk result (λ s. string_bytes s ≡ known_text (S.meaning system.now) trace.now) }
 {
     let compiled = compile_lent(system, heap)?;
     let at = compiled.after(trace);

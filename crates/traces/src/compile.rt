@@ -13,7 +13,7 @@ use std::alloc::{AllocError, Global};
 
 // The compiled system means what the system means. Only memory can be wanting.
 pub fn compile_lent<S: Lts>(system: &S, heap: Global) -> Result<Compiled, AllocError>
-    ensures { IfOk result (λ c. system_of c ≡ meaning system.now) }
+    ensures { IfOk result (λ c. system_of c ≡ S.meaning system.now) }
 {
     let transitions = tabulate(system, heap)?;
     let closures = closure_table(&transitions, heap)?;
@@ -33,7 +33,7 @@ pub fn compile_lent<S: Lts>(system: &S, heap: Global) -> Result<Compiled, AllocE
 
 // The same, taking the system; where memory is wanting it is handed back.
 pub fn compile<S: Lts + Drop>(system: S, heap: Global) -> Result<Compiled, S>
-    ensures { MatchResult result (λ c. system_of c ≡ meaning system) (λ back. back ≡ system) }
+    ensures { MatchResult result (λ c. system_of c ≡ S.meaning system) (λ back. back ≡ system) }
 {
     match compile_lent(&system, heap) {
         Ok(compiled) => Ok(compiled),

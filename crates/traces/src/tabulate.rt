@@ -10,7 +10,7 @@ use std::alloc::{AllocError, Global};
 
 // Where each action leads from each state.
 fn visible_table<S: Lts>(system: &S, heap: Global) -> Result<Vec<StateSet>, AllocError>
-    ensures { IfOk result (λ v. Filled (set_at v.items) (length v.items) (visible_at (meaning system.now)) (32 * (meaning system.now).count)) }
+    ensures { IfOk result (λ v. Filled (set_at v.items) (length v.items) (visible_at (S.meaning system.now)) (32 * (S.meaning system.now).count)) }
 {
     let places = 32 * system.count();
     let mut table = Vec::with_capacity(heap, places)?;
@@ -22,7 +22,7 @@ fn visible_table<S: Lts>(system: &S, heap: Global) -> Result<Vec<StateSet>, Allo
 
 // Where silent transitions lead from each state.
 fn hidden_table<S: Lts>(system: &S, heap: Global) -> Result<Vec<StateSet>, AllocError>
-    ensures { IfOk result (λ v. Filled (set_at v.items) (length v.items) (meaning system.now).hidden (meaning system.now).count) }
+    ensures { IfOk result (λ v. Filled (set_at v.items) (length v.items) (S.meaning system.now).hidden (S.meaning system.now).count) }
 {
     let count = system.count();
     let mut table = Vec::with_capacity(heap, count)?;
@@ -34,7 +34,7 @@ fn hidden_table<S: Lts>(system: &S, heap: Global) -> Result<Vec<StateSet>, Alloc
 
 // The system's transitions as tables.
 pub fn tabulate<S: Lts>(system: &S, heap: Global) -> Result<Transitions, AllocError>
-    ensures { IfOk result (λ t. table_of t ≡ meaning system.now) }
+    ensures { IfOk result (λ t. table_of t ≡ S.meaning system.now) }
 {
     let visible = visible_table(system, heap)?;
     let hidden = hidden_table(system, heap)?;
