@@ -3,47 +3,45 @@ use cards::faults::*;
 use cards::written_card::WrittenCard;
 use cards::written_test::WrittenTest;
 use lts::system::{Lts, Test};
-use std::alloc::Global;
 use std::test::*;
 
 // What a file is refused for.
 #[derive(Clone, Copy)]
 struct Refusal {
-    heap: Global,
     reason: Reason,
 }
 
 impl Refusal {
     // The words are no card, and the card that was read before stays: action 0 leads from state 0 to state 1.
-    fn card(self, place: usize, words: &[u32]) -> Result<(), Fail> {
-        let mut card = WrittenCard::new(self.heap)?;
+    fn card(self, rt: &HostRuntime, place: usize, words: &[u32]) -> Result<(), Fail> {
+        let mut card = WrittenCard::new(rt.alloc())?;
         card.read(&[0x1001_0002, 0x2000_0001, 0x5000_0000])?;
         let fault = WordFault {
             reason: self.reason,
             place,
         };
-        assert_eq!(card.read(words), Err(fault));
-        assert_eq!(card.visible(0, 0).bits(), 0b10);
+        assert_eq!(rt; card.read(words), Err(fault));
+        assert_eq!(rt; card.visible(0, 0).bits(), 0b10);
         let mut out = [0; 3];
-        assert_eq!(card.write(&mut out), Ok(3));
-        assert_eq!(out, [0x1001_0002, 0x2000_0001, 0x5000_0000]);
+        assert_eq!(rt; card.write(&mut out), Ok(3));
+        assert_eq!(rt; out, [0x1001_0002, 0x2000_0001, 0x5000_0000]);
         Ok(())
     }
 
     // The words are no test, and the test that was read before stays: a silent transition leads from state 0 to state 1, which passes.
-    fn test(self, place: usize, words: &[u32]) -> Result<(), Fail> {
-        let mut test = WrittenTest::new(self.heap)?;
+    fn test(self, rt: &HostRuntime, place: usize, words: &[u32]) -> Result<(), Fail> {
+        let mut test = WrittenTest::new(rt.alloc())?;
         test.read(&[0x1001_0002, 0x3000_0001, 0x4000_0001, 0x5000_0000])?;
         let fault = WordFault {
             reason: self.reason,
             place,
         };
-        assert_eq!(test.read(words), Err(fault));
-        assert_eq!(test.hidden(0).bits(), 0b10);
-        assert!(test.passes(1));
+        assert_eq!(rt; test.read(words), Err(fault));
+        assert_eq!(rt; test.hidden(0).bits(), 0b10);
+        assert!(rt; test.passes(1));
         let mut out = [0; 4];
-        assert_eq!(test.write(&mut out), Ok(4));
-        assert_eq!(out, [0x1001_0002, 0x3000_0001, 0x4000_0001, 0x5000_0000]);
+        assert_eq!(rt; test.write(&mut out), Ok(4));
+        assert_eq!(rt; out, [0x1001_0002, 0x3000_0001, 0x4000_0001, 0x5000_0000]);
         Ok(())
     }
 }
@@ -52,53 +50,50 @@ impl Refusal {
 #[test]
 fn missing(rt: HostRuntime) -> Result<(), Fail> {
     let missing = Refusal {
-        heap: rt.alloc(),
         reason: Reason::Missing,
     };
-    missing.card(0, &[])?;
-    missing.card(1, &[0x1000_0001])?;
-    missing.card(2, &[0x1001_0001, 0x2000_0000])?;
-    missing.test(2, &[0x1000_0001, 0x4000_0000])
+    missing.card(&rt, 0, &[])?;
+    missing.card(&rt, 1, &[0x1000_0001])?;
+    missing.card(&rt, 2, &[0x1001_0001, 0x2000_0000])?;
+    missing.test(&rt, 2, &[0x1000_0001, 0x4000_0000])
 }
 
 // A kind that may not stand there, and an unused bit that is set.
 #[test]
 fn kind(rt: HostRuntime) -> Result<(), Fail> {
     let kind = Refusal {
-        heap: rt.alloc(),
         reason: Reason::Kind,
     };
-    kind.card(0, &[0x5000_0000])?;
-    kind.card(1, &[0x1000_0001, 0x1000_0002, 0x5000_0000])?;
-    kind.card(1, &[0x1000_0001, 0x4000_0000, 0x5000_0000])?;
-    kind.card(1, &[0x1000_0001, 0x6000_0000])?;
-    kind.card(1, &[0x1001_0001, 0x2002_0000, 0x5000_0000])?;
-    kind.card(1, &[0x1001_0001, 0x3000_0040, 0x5000_0000])?;
-    kind.test(1, &[0x1000_0001, 0x4000_0040, 0x5000_0000])?;
-    kind.card(1, &[0x1000_0001, 0x5000_0001])
+    kind.card(&rt, 0, &[0x5000_0000])?;
+    kind.card(&rt, 1, &[0x1000_0001, 0x1000_0002, 0x5000_0000])?;
+    kind.card(&rt, 1, &[0x1000_0001, 0x4000_0000, 0x5000_0000])?;
+    kind.card(&rt, 1, &[0x1000_0001, 0x6000_0000])?;
+    kind.card(&rt, 1, &[0x1001_0001, 0x2002_0000, 0x5000_0000])?;
+    kind.card(&rt, 1, &[0x1001_0001, 0x3000_0040, 0x5000_0000])?;
+    kind.test(&rt, 1, &[0x1000_0001, 0x4000_0040, 0x5000_0000])?;
+    kind.card(&rt, 1, &[0x1000_0001, 0x5000_0001])
 }
 
 // No state, 65 states, a start that is none, 257 lines.
 #[test]
 fn range_of_the_head(rt: HostRuntime) -> Result<(), Fail> {
     let range = Refusal {
-        heap: rt.alloc(),
         reason: Reason::Range,
     };
-    range.card(0, &[0x1000_0000, 0x5000_0000])?;
-    range.card(0, &[0x1000_0041, 0x5000_0000])?;
-    range.card(0, &[0x1000_0101, 0x5000_0000])?;
-    range.card(0, &[0x1101_0001, 0x5000_0000])
+    range.card(&rt, 0, &[0x1000_0000, 0x5000_0000])?;
+    range.card(&rt, 0, &[0x1000_0041, 0x5000_0000])?;
+    range.card(&rt, 0, &[0x1000_0101, 0x5000_0000])?;
+    range.card(&rt, 0, &[0x1101_0001, 0x5000_0000])
 }
 
 // A line that leads to no state or leaves none, and a passing state that is none.
 #[test]
 fn range(rt: HostRuntime) -> Result<(), Fail> {
     let range = Refusal {
-        heap: rt.alloc(),
         reason: Reason::Range,
     };
     range.card(
+        &rt,
         2,
         &[
             0x1003_0002,
@@ -108,63 +103,80 @@ fn range(rt: HostRuntime) -> Result<(), Fail> {
             0x5000_0000,
         ],
     )?;
-    range.card(1, &[0x1001_0002, 0x2000_1000, 0x5000_0000])?;
-    range.card(1, &[0x1001_0002, 0x3000_0002, 0x5000_0000])?;
-    range.test(1, &[0x1000_0002, 0x4000_0002, 0x5000_0000])
+    range.card(&rt, 1, &[0x1001_0002, 0x2000_1000, 0x5000_0000])?;
+    range.card(&rt, 1, &[0x1001_0002, 0x3000_0002, 0x5000_0000])?;
+    range.test(&rt, 1, &[0x1000_0002, 0x4000_0002, 0x5000_0000])
 }
 
 // A word that is equal to the one before, or lower.
 #[test]
 fn order(rt: HostRuntime) -> Result<(), Fail> {
     let order = Refusal {
-        heap: rt.alloc(),
         reason: Reason::Order,
     };
-    order.card(2, &[0x1002_0001, 0x2000_0000, 0x2000_0000, 0x5000_0000])?;
-    order.card(2, &[0x1002_0002, 0x2000_0001, 0x2000_0000, 0x5000_0000])?;
-    order.test(2, &[0x1000_0002, 0x4000_0001, 0x4000_0000, 0x5000_0000])
+    order.card(
+        &rt,
+        2,
+        &[0x1002_0001, 0x2000_0000, 0x2000_0000, 0x5000_0000],
+    )?;
+    order.card(
+        &rt,
+        2,
+        &[0x1002_0002, 0x2000_0001, 0x2000_0000, 0x5000_0000],
+    )?;
+    order.test(
+        &rt,
+        2,
+        &[0x1000_0002, 0x4000_0001, 0x4000_0000, 0x5000_0000],
+    )
 }
 
 // More lines than the head says, and fewer.
 #[test]
 fn lines(rt: HostRuntime) -> Result<(), Fail> {
     let lines = Refusal {
-        heap: rt.alloc(),
         reason: Reason::Lines,
     };
-    lines.card(2, &[0x1001_0002, 0x2000_0000, 0x2000_0001, 0x5000_0000])?;
-    lines.card(2, &[0x1002_0001, 0x2000_0000, 0x5000_0000])
+    lines.card(
+        &rt,
+        2,
+        &[0x1001_0002, 0x2000_0000, 0x2000_0001, 0x5000_0000],
+    )?;
+    lines.card(&rt, 2, &[0x1002_0001, 0x2000_0000, 0x5000_0000])
 }
 
 // A word after the end, whatever it is.
 #[test]
 fn trailing(rt: HostRuntime) -> Result<(), Fail> {
     let trailing = Refusal {
-        heap: rt.alloc(),
         reason: Reason::Trailing,
     };
-    trailing.card(2, &[0x1000_0001, 0x5000_0000, 0x5000_0000])?;
-    trailing.card(2, &[0x1000_0001, 0x5000_0000, 0xFFFF_FFFF])
+    trailing.card(&rt, 2, &[0x1000_0001, 0x5000_0000, 0x5000_0000])?;
+    trailing.card(&rt, 2, &[0x1000_0001, 0x5000_0000, 0xFFFF_FFFF])
 }
 
 // Where one word has two faults, the lower number is told.
 #[test]
 fn first_of_two(rt: HostRuntime) -> Result<(), Fail> {
-    let heap = rt.alloc();
     let kind = Refusal {
-        heap,
         reason: Reason::Kind,
     };
-    kind.card(0, &[0x2000_0000])?;
-    kind.card(1, &[0x1001_0001, 0x2002_0001, 0x5000_0000])?;
+    kind.card(&rt, 0, &[0x2000_0000])?;
+    kind.card(&rt, 1, &[0x1001_0001, 0x2002_0001, 0x5000_0000])?;
     let range = Refusal {
-        heap,
         reason: Reason::Range,
     };
-    range.card(2, &[0x1002_0002, 0x2000_0800, 0x2000_0002, 0x5000_0000])?;
+    range.card(
+        &rt,
+        2,
+        &[0x1002_0002, 0x2000_0800, 0x2000_0002, 0x5000_0000],
+    )?;
     let order = Refusal {
-        heap,
         reason: Reason::Order,
     };
-    order.card(2, &[0x1001_0002, 0x2000_0001, 0x2000_0000, 0x5000_0000])
+    order.card(
+        &rt,
+        2,
+        &[0x1001_0002, 0x2000_0001, 0x2000_0000, 0x5000_0000],
+    )
 }
