@@ -46,7 +46,7 @@ impl Lts for Compiled {
 
     ghost lawful = { λ x. table_lawful x.transitions };
 
-    ghost small = { first_of (Prim.search rules, Prim.grind (arith, Self.row.coded.inj)) };
+    ghost small = { λ x. x.transitions.few };
 
     fn count(&self) -> usize {
         self.transitions.count()

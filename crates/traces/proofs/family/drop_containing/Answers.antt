@@ -5,8 +5,8 @@ use Rattle.traces.proofs.FamilySteps.{without_kept, free_if}
 use Rattle.traces.proofs.family.drop_containing.Goals.{then-not-is_within, else-not-is_within}
 use Rattle.traces.proofs.family.drop_containing.Goals as goal
 
-pub index-mut-requires : goal.index-mut-requires
-index-mut-requires c = omega (arith, c.loop-i.invariant.0.behind, c.loop-i.invariant.0.long)
+pub index_mut-requires : goal.index_mut-requires
+index_mut-requires c = omega (arith, c.loop-i.invariant.0.behind, c.loop-i.invariant.0.long)
 
 pub loop-i-preserved : goal.loop-i-preserved
 loop-i-preserved c =

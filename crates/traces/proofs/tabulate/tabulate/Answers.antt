@@ -11,25 +11,15 @@ invariant_of-result g c =
     let h = c.in_ok-hidden.ensures in
     let count = c.count.ensures in
     let start = c.start.ensures in
-    let starts = lawful.starts in (
-      omega arith,
-      (
-        omega arith,
-        (
-          c.in_ok-visible.visible.ok.0 ∙ (v.length ∙ ap (λ n. 32 * n) (sym count)),
-          (
-            c.in_ok-hidden.hidden.ok.0 ∙ (h.length ∙ sym count),
-            (
-              visible_within m lawful c.count.result (vec_items c.in_ok-visible.visible) count v,
-              (
-                hidden_within m lawful c.count.result (vec_items c.in_ok-hidden.hidden) count h,
-                tt,
-              ),
-            ),
-          ),
-        ),
-      ),
-    )
+    let starts = lawful.starts in
+    record {
+      few = omega arith;
+      starts = omega arith;
+      actions = c.in_ok-visible.visible.ok.0 ∙ (v.length ∙ ap (λ n. 32 * n) (sym count));
+      states = c.in_ok-hidden.hidden.ok.0 ∙ (h.length ∙ sym count);
+      visiblewithin = visible_within m lawful c.count.result (vec_items c.in_ok-visible.visible) count v;
+      hiddenwithin = hidden_within m lawful c.count.result (vec_items c.in_ok-hidden.hidden) count h;
+    }
 
 pub returns : goal.returns
 returns g c =

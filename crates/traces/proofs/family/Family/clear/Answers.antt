@@ -8,4 +8,8 @@ pub invariant_of-self : goal.invariant_of-self
 invariant_of-self c =
     let room = c.args.self.now.room in
     let few = c.args.self.now.few in
-    (omega (arith, c.truncate.ensures.capacity), (omega (arith, c.truncate.ensures.len), (ap (λ l. antichain (bits_of l)) c.truncate.ensures.items ∙ antichain_none, tt)))
+    record {
+      room = omega (arith, c.truncate.ensures.capacity);
+      few = omega (arith, c.truncate.ensures.len);
+      apart = ap (λ l. antichain (bits_of l)) c.truncate.ensures.items ∙ antichain_none;
+    }

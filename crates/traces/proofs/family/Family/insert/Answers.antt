@@ -8,10 +8,9 @@ pub invariant_of-self : goal.invariant_of-self
 invariant_of-self c =
     let before = c.args.self.now in
     let room = before.room in
-    let few = before.few in (
-      omega (arith, c.enter.ensures.capacity),
-      (
-        omega (arith, c.enter.ensures.len),
-        (ap antichain c.enter.ensures.items ∙ offered_antichain c.args.offer.bits (bits_of (vec_items before.sets)) before.apart, tt),
-      ),
-    )
+    let few = before.few in
+    record {
+      room = omega (arith, c.enter.ensures.capacity);
+      few = omega (arith, c.enter.ensures.len);
+      apart = ap antichain c.enter.ensures.items ∙ offered_antichain c.args.offer.bits (bits_of (vec_items before.sets)) before.apart;
+    }

@@ -7,4 +7,8 @@ use Rattle.traces.proofs.family.Family.new.Goals as goal
 pub invariant_of-result : goal.invariant_of-result
 invariant_of-result c =
     let made = c.in_ok-sets.ensures in
-    (made.capacity, (omega (arith, made.len), (ap (λ l. antichain (bits_of l)) made.items ∙ antichain_none, tt)))
+    record {
+      room = made.capacity;
+      few = omega (arith, made.len);
+      apart = ap (λ l. antichain (bits_of l)) made.items ∙ antichain_none;
+    }
