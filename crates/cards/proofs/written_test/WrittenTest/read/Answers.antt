@@ -7,7 +7,7 @@ use Rattle.cards.specs.RoundTrip.{read_back, read_valid}
 use Rattle.cards.proofs.written_test.WrittenTest.read.Goals as goal
 
 pub invariant_of-self-2 : goal.invariant_of-self-2
-invariant_of-self-2 c = ((read_valid Test c.args.words.now _ c.in_ok-self.ensures.taken).passing, tt)
+invariant_of-self-2 c = record { within = (read_valid Test c.args.words.now _ c.in_ok-self.ensures.taken).passing }
 
 pub returns : goal.returns
 returns c =
