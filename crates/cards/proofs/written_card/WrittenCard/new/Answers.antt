@@ -1,8 +1,8 @@
-use Rattle.std.proofs.Common.{◌≡◌, List, map, sym, refl, ap, ◌∙◌, arith}
+use Rattle.std.proofs.Common.{List, map, ap, arith}
 use Rattle.cards.specs.declared.lines.Line.{Line}
 use Rattle.cards.specs.Lines.{lines_fit, rising}
 use Rattle.cards.specs.Words.{line_word}
-use Rattle.cards.specs.Tabled.{tabled_none}
+use Rattle.cards.proofs.Tabled.{tabled_none}
 use Rattle.cards.proofs.written_card.WrittenCard.new.Goals as goal
 
 pub invariant_of-result : goal.invariant_of-result
