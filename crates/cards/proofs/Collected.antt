@@ -1,7 +1,6 @@
 -- Collecting what words hold, one word after another. Assumes nothing.
-use Rattle.std.proofs.Common.{◌≡◌, ℕ, ◌+◌, ◌<◌, ◌≤◌, List, [], ◌∷◌, ◌++◌, length, get_or, drop, Some, None, Option, sym, refl, ap, ◌∙◌, append_assoc, append-nil, arith, length-append}
+use Rattle.std.proofs.Common.{◌≡◌, ℕ, ◌+◌, ◌<◌, ◌≤◌, List, [], ◌++◌, length, get_or, drop, Some, None, Option, sym, refl, ap, ◌∙◌, append_assoc, append-nil, arith, length-append}
 use Rattle.std.proofs.lemmas.List.{drop_all, drop_more}
-use Rattle.lts.specs.Sets.{inserted}
 use Rattle.cards.specs.declared.lines.Line.{Line as LineT}
 use Rattle.cards.specs.declared.lines.Role.TheVariants.{Test}
 use Rattle.cards.specs.declared.lines.Word.{Word}

@@ -1,11 +1,11 @@
 -- Words laid over a buffer, one after another. Assumes nothing.
-use Rattle.std.proofs.Common.{◌≡◌, ℕ, suc, ◌+◌, ◌^◌, ◌<◌, ◌≤◌, List, [], ◌∷◌, ◌++◌, map, length, get_or, take, drop, set, Ok, Err, sym, refl, ap, ◌∙◌, subst, ap₂, append_assoc, add-zero, zero-add, arith, length-append, take-append-drop, length-take, le-leb}
+use Rattle.std.proofs.Common.{◌≡◌, ℕ, ◌+◌, ◌^◌, ◌<◌, ◌≤◌, List, [], ◌∷◌, ◌++◌, map, length, get_or, take, drop, set, Ok, Err, sym, refl, ap, ◌∙◌, subst, ap₂, append_assoc, add-zero, zero-add, arith, length-append, take-append-drop, length-take, le-leb}
 use mathlib.Core.List.{Memᴰ}
 use borrow.Author.Tests.{lt-leb}
 use lib.ListN.{length-map}
 use lib.Seq.{set-append_seam, take-append_seam, drop-append-add}
 use Rattle.std.proofs.lemmas.List.{drop_more, drop-drop}
-use Rattle.lts.specs.Sets.{members, Lists}
+use Rattle.lts.specs.Sets.{members}
 use Rattle.lts.proofs.Lowest.{lists}
 use Rattle.lts.proofs.Membership.{members_below}
 use Rattle.cards.specs.Contents.{Contents, written, laid, wrote, buffer}

@@ -1,5 +1,13 @@
 pub mod Checking
+pub mod Tabled
+pub mod Parts
+pub mod Accepted
+pub mod Sorted
+pub mod Passing
+pub mod RoundTrip
 pub mod Collected
+pub mod Meant
 pub mod Named
 pub mod Laid
+pub mod Holding
 pub mod Files

@@ -1,27 +1,24 @@
 -- The words of a file say, one by one, what its card means. Assumes nothing.
-use Rattle.std.proofs.Common.{◌≡◌, ℕ, zero, suc, ◌+◌, ◌*◌, ◌^◌, ◌<◌, ◌≤◌, Bool, true, false, cond, ltb, ◌⊎◌, ◌↔◌, List, [], ◌∷◌, ◌++◌, map, length, Some, Ok, Option, sym, refl, ap, ◌∙◌, subst, inl, inr, arith, ltb-true, lt-ltb}
+use Rattle.std.proofs.Common.{◌≡◌, ℕ, ◌*◌, ◌^◌, ◌<◌, ◌≤◌, true, ◌⊎◌, List, [], ◌∷◌, ◌++◌, map, Some, Ok, sym, refl, ap, ◌∙◌, subst, inl, inr, arith, ltb-true, lt-ltb}
 use mathlib.Core.List.Memᴰ
 use mathlib.Core.List.{Memᴰ}
-use Rattle.lts.specs.Sets.{In, members, Lists}
-use Rattle.lts.proofs.Lowest.{lists}
-use Rattle.lts.specs.System.{System}
-use Rattle.cards.specs.declared.lines.Head.{Head}
+use Rattle.lts.specs.Sets.{In, members}
 use Rattle.cards.specs.declared.lines.Label.{Label}
 use Rattle.cards.specs.declared.lines.Label.TheVariants.{Action, Silent}
 use Rattle.cards.specs.declared.lines.Line.{Line as LineT}
 use Rattle.cards.specs.declared.lines.Role.{Role}
 use Rattle.cards.specs.declared.lines.Role.TheVariants.{Test}
 use Rattle.cards.specs.declared.lines.Word.{Word}
-use Rattle.cards.specs.declared.lines.Word.TheVariants.{Line, Passing, End}
+use Rattle.cards.specs.declared.lines.Word.TheVariants.{Line}
 use Rattle.cards.specs.Contents.{Contents, written, read_words}
-use Rattle.cards.specs.Lines.{column, targets, system_of, label_fits, line_fits, lines_fit}
+use Rattle.cards.specs.Lines.{column, system_of, label_fits, line_fits, lines_fit}
 use Rattle.cards.specs.Meaning.{Says, SaysPassing}
-use Rattle.cards.specs.Words.{line_word, head_word, passing_word, end_word, encode, decode}
-use Rattle.cards.specs.Meant.{Leads, in_targets, targets_in}
-use Rattle.cards.specs.Parts.{PartFits, decode_encode}
-use Rattle.cards.specs.RoundTrip.{Valid, line_high, listed, read_back, read_valid}
-use Rattle.cards.specs.Sorted.{line_low}
-use Rattle.cards.specs.Tabled.{both, Fits, fits}
+use Rattle.cards.specs.Words.{line_word, passing_word, end_word, encode, decode}
+use Rattle.cards.proofs.Meant.{in_targets, targets_in}
+use Rattle.cards.proofs.Parts.{PartFits, decode_encode}
+use Rattle.cards.proofs.RoundTrip.{Valid, line_high, listed, read_back, read_valid}
+use Rattle.cards.proofs.Sorted.{line_low}
+use Rattle.cards.specs.Meant.{both, fits}
 
 -- two parts that fit and have one word are one
 same_part : (x y : Word) → PartFits Test x → PartFits Test y → encode x ≡ encode y → x ≡ y

@@ -1,25 +1,8 @@
--- What a written card holds is valid. Assumes nothing.
-use Rattle.std.specs.Prelude.{◌≡◌, ℕ, ◌^◌, ◌<◌, false, refl}
-use Rattle.std.proofs.Common.{arith}
-use Rattle.cards.specs.declared.lines.Role.{Role}
+-- The system of a written card is lawful. Assumes nothing.
 use Rattle.cards.specs.declared.written_card.WrittenCard.{WrittenCard}
-use Rattle.cards.specs.Cards.{contents_with, system}
-use Rattle.cards.specs.Words.{is_test}
+use Rattle.cards.specs.Cards.{system}
 use Rattle.lts.specs.System.{Lawful}
 use Rattle.cards.specs.Meant.{lawful}
-use Rattle.cards.specs.RoundTrip.{Valid}
-
-pub held_valid : (role : Role) (p : ℕ) (c : WrittenCard) → p < 2 ^ c.states → (is_test role ≡ false → p ≡ 0) → Valid role (contents_with p c)
-held_valid role p c h a = record {
-  some = c.sized.0;
-  most = c.sized.1;
-  starts = c.sized.2;
-  fit = c.sound;
-  ordered = c.ordered;
-  few = omega (arith, c.few.0, c.lines.ok.0);
-  passing = h;
-  allowed = a;
-}
 
 pub held_lawful : (c : WrittenCard) → Lawful (system c)
 held_lawful c = lawful c.states c.start c.lines.items c.sized.0 c.sized.2 c.sound

@@ -7,11 +7,5 @@ pub mod Meaning
 pub mod Cards
 pub mod Tests
 pub mod Bytes
-pub mod Holding
 pub mod Meant
-pub mod Tabled
-pub mod RoundTrip
-pub mod Accepted
-pub mod Parts
-pub mod Passing
-pub mod Sorted
+pub mod Holding

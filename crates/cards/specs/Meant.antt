@@ -1,16 +1,40 @@
--- What the lines of a written card mean. Assumes nothing.
-use Rattle.std.specs.Prelude.{◌≡◌, ℕ, zero, suc, ◌+◌, ◌^◌, ◌<◌, ◌≤◌, Bool, true, false, cond, ◌&&◌, T, ◌⊎◌, List, [], ◌∷◌, ◌==◌, nat_lt, refl}
-use Rattle.std.proofs.Common.{sym, ap, subst, ◌∙◌, inl, inr, arith, eq-eqb, ne_eqb, eqb-true, le-ltb}
-use mathlib.Core.List.Memᴰ
-use mathlib.Core.List.{Memᴰ}
-use Rattle.std.specs.Int.Bits.{bit_or, or_zero_l}
+-- The lines of a written card make a lawful system. Assumes nothing.
+use Rattle.std.specs.Prelude.{◌≡◌, ℕ, ◌^◌, ◌<◌, ◌≤◌, Bool, true, false, cond, ◌&&◌, List, [], ◌∷◌, ◌==◌, nat_lt, refl}
+use Rattle.std.proofs.Common.{arith, ltb-true, ne_eqb, le-ltb}
+use Rattle.std.specs.Int.Bits.{or_zero_l}
 use Rattle.std.proofs.lemmas.Nat.{pow_pos, pow_below, or_lt}
-use Rattle.lts.specs.Sets.{In}
-use Rattle.lts.specs.System.{System, Lawful}
-use Rattle.lts.proofs.Membership.{in_or, or_left, or_right, in_power, power_in, not_empty}
+use Rattle.lts.specs.System.{Lawful}
 use Rattle.cards.specs.declared.lines.Line.{Line}
-use Rattle.cards.specs.Lines.{column, hit, targets, system_of, line_fits, lines_fit}
-use Rattle.cards.specs.Tabled.{both, Fits, fits}
+use Rattle.cards.specs.declared.lines.Label.{Label}
+use Rattle.cards.specs.declared.lines.Label.TheVariants.{Action, Silent}
+use Rattle.cards.specs.Lines.{column, hit, targets, system_of, label_fits, line_fits, lines_fit}
+
+-- both of two tests
+pub both : (a b : Bool) → (a && b) ≡ true → (a ≡ true) × (b ≡ true)
+both true b e = (refl, e)
+both false b e = absurd (let z : ◌≡◌ {A = ℕ} 0 1 = cc in omega arith)
+
+column_below : (x : Label) → label_fits x ≡ true → column x < 33
+column_below (Action a) e = omega (arith, ltb-true a 32 e)
+column_below Silent e = omega arith
+
+-- what a line that fits keeps to
+pub record Fits (n : ℕ) (l : Line) : Type 0 where
+  pub from_below : l.from < n
+  pub to_below : l.to < n
+  pub label : label_fits l.label ≡ true
+  pub column_below : column l.label < 33
+
+pub fits : (n : ℕ) (l : Line) → line_fits n l ≡ true → Fits n l
+fits n l e =
+    let a = both (nat_lt l.from n && nat_lt l.to n) (label_fits l.label) e in
+    let b = both (nat_lt l.from n) (nat_lt l.to n) a.0 in
+    record {
+      from_below = ltb-true l.from n b.0;
+      to_below = ltb-true l.to n b.1;
+      label = a.1;
+      column_below = column_below l.label a.1;
+    }
 
 chosen_lt : (b : Bool) (x n : ℕ) → x < n → 0 < n → cond b x 0 < n
 chosen_lt true x n h z = h
@@ -48,43 +72,3 @@ lawful n start ls some starts e = record {
   hidden_outside = λ p h. targets_outside n ls p 32 e h;
   no_action = λ p a h. rw (le-ltb a 32 h);
 }
-
-hit_is : (b c : Bool) (q t : ℕ) → In q (cond (b && c) (2 ^ t) 0) → (b ≡ true) × (c ≡ true) × (q ≡ t)
-hit_is true true q t h = (refl, refl, power_in q t h)
-hit_is true false q t h = absurd (not_empty q 0 h refl)
-hit_is false c q t h = absurd (not_empty q 0 h refl)
-
--- a line that leads from p to q and stands in column k
-pub record Leads (ls : List Line) (p k q : ℕ) : Type 0 where
-  pub line : Line
-  pub listed : Memᴰ line ls
-  pub from : line.from ≡ p
-  pub label : column line.label ≡ k
-  pub to : line.to ≡ q
-
-pub in_targets : (ls : List Line) (p k q : ℕ) → In q (targets ls p k) → Leads ls p k q
-unfolding targets
-in_targets [] p k q h = absurd (not_empty q 0 h refl)
-in_targets (l ∷ ls) p k q h =
-    elim (in_or q (hit l p k) (targets ls p k) h) [
-      | inl y ↦
-          let i = hit_is (l.from == p) (column l.label == k) q l.to y in
-          record { line = l; listed = Memᴰ.head refl; from = eqb-true l.from p i.0; label = eqb-true (column l.label) k i.1; to = sym i.2 }
-      | inr y ↦
-          let i = in_targets ls p k q y in
-          record { line = i.line; listed = Memᴰ.tail i.listed; from = i.from; label = i.label; to = i.to }
-    ]
-
-hit_own : (l : Line) → In l.to (hit l l.from (column l.label))
-hit_own l = rw (eq-eqb l.from l.from refl, eq-eqb (column l.label) (column l.label) refl) (in_power l.to)
-
-pub targets_in : (ls : List Line) (l : Line) → Memᴰ l ls → In l.to (targets ls l.from (column l.label))
-unfolding targets
-targets_in [] l m = absurd (Memᴰ.not-nil m)
-targets_in (x ∷ xs) l m =
-    let p = l.from in
-    let k = column l.label in
-    elim (Memᴰ.cases_cons m) [
-      | inl e ↦ or_left l.to (hit x p k) (targets xs p k) (subst (λ (y : Line). In l.to (hit y p k)) e (hit_own l))
-      | inr m' ↦ or_right l.to (hit x p k) (targets xs p k) (targets_in xs l m')
-    ]

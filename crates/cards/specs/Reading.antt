@@ -1,5 +1,5 @@
 -- Reading words: which card they stand for, or which fault is found first. Assumes nothing.
-use Rattle.std.specs.Prelude.{ℕ, zero, suc, ◌+◌, ◌-◌, ◌*◌, ◌/◌, ◌%◌, ◌^◌, Bool, true, false, cond, ◌&&◌, List, [], ◌∷◌, Some, None, Ok, Err, Option, Result, ◌==◌, nat_le, nat_lt}
+use Rattle.std.specs.Prelude.{ℕ, ◌+◌, ◌-◌, Bool, true, cond, ◌&&◌, List, [], ◌∷◌, Some, None, Ok, Err, Option, Result, ◌==◌, nat_le, nat_lt}
 use Rattle.cards.specs.declared.faults.Reason.{Reason}
 use Rattle.cards.specs.declared.faults.Reason.TheVariants.{Missing, Kind, Range, Order, Lines, Trailing}
 use Rattle.cards.specs.declared.faults.WordFault.{WordFault}
@@ -8,7 +8,7 @@ use Rattle.cards.specs.declared.lines.Line.{Line as LineT}
 use Rattle.cards.specs.declared.lines.Progress.{Progress}
 use Rattle.cards.specs.declared.lines.Progress.TheVariants.{Start, Body, Ended}
 use Rattle.cards.specs.declared.lines.Role.{Role}
-use Rattle.cards.specs.declared.lines.Role.TheVariants.{Card, Test}
+use Rattle.cards.specs.declared.lines.Role.TheVariants.{Test}
 use Rattle.cards.specs.declared.lines.Word.{Word}
 use Rattle.cards.specs.declared.lines.Word.TheVariants.{Line, Passing, End}
 use Rattle.cards.specs.Words.{bits, kind, decode}

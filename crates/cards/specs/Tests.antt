@@ -1,7 +1,7 @@
 -- What a written test holds and means. Assumes nothing.
 use Rattle.std.specs.Prelude.{ℕ, Bool}
 use Rattle.lts.specs.Sets.{has}
-use Rattle.lts.specs.System.{System, Tester}
+use Rattle.lts.specs.System.{System}
 use Rattle.cards.specs.declared.written_test.WrittenTest.{WrittenTest}
 use Rattle.cards.specs.Cards.{contents_with, system}
 use Rattle.cards.specs.Contents.{Contents}

@@ -1,9 +1,7 @@
 -- The words of the card format, taken apart and put together. Assumes nothing.
 use Rattle.std.specs.Prelude.{ℕ, ◌+◌, ◌*◌, ◌/◌, ◌%◌, ◌^◌, Bool, true, false, cond, ◌&&◌, Some, None, Option, ◌==◌}
-use Rattle.cards.specs.declared.lines.Label.{Label}
 use Rattle.cards.specs.declared.lines.Label.TheVariants.{Action, Silent}
 use Rattle.cards.specs.declared.lines.Line.{Line as LineT}
-use Rattle.cards.specs.declared.lines.Head.{Head}
 use Rattle.cards.specs.declared.lines.Word.{Word}
 use Rattle.cards.specs.declared.lines.Word.TheVariants.{Line, Passing, End}
 use Rattle.cards.specs.declared.lines.Role.{Role}

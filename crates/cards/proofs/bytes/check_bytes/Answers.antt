@@ -1,4 +1,3 @@
-use Rattle.std.proofs.Common.{◌≡◌}
 use Rattle.std.proofs.lemmas.Result.{err_from_is_err_and}
 use Rattle.cards.proofs.Files.{front, checked_good, checked_bad}
 use Rattle.cards.proofs.bytes.check_bytes.Goals as goal

@@ -1,4 +1,4 @@
-use Rattle.std.proofs.Common.{◌≡◌, ℕ, ◌<◌, ◌≤◌, length, None, vec_items, vec_capacity, sym, ap, ◌∙◌, append-nil, arith}
+use Rattle.std.proofs.Common.{◌<◌, ◌≤◌, length, None, vec_items, vec_capacity, sym, ap, ◌∙◌, append-nil, arith}
 use Rattle.lts.specs.declared.sets.StateSet.{StateSet}
 use Rattle.cards.specs.Contents.{with_all}
 use Rattle.cards.specs.Reading.{lines_in}

@@ -1,7 +1,6 @@
-use Rattle.std.proofs.Common.{◌≡◌, ℕ, [], ◌∷◌, ◌++◌, length, Some, sym, refl, ap, ◌∙◌, append-nil, arith, length-append}
+use Rattle.std.proofs.Common.{ℕ, [], ◌∷◌, ◌++◌, length, Some, sym, refl, ap, ◌∙◌, append-nil, arith, length-append}
 use Rattle.lts.specs.Sets.{inserted}
 use Rattle.cards.specs.declared.lines.Word.{Word}
-use Rattle.cards.specs.declared.lines.Word.TheVariants.{Line, Passing, End}
 use Rattle.cards.specs.Contents.{with_all}
 use Rattle.cards.specs.Reading.{as_line, as_passing}
 use Rattle.cards.proofs.collecting.put.Goals as goal

@@ -2,7 +2,7 @@ use Rattle.std.proofs.Common.{◌/◌, ◌%◌, List, ap, ◌∙◌, arith}
 use Rattle.std.proofs.lemmas.List.{take_all}
 use Rattle.cards.specs.declared.lines.Line.{Line}
 use Rattle.cards.specs.Lines.{targets}
-use Rattle.cards.specs.Tabled.{tabled_next, no_line, line_at}
+use Rattle.cards.proofs.Tabled.{tabled_next, no_line, line_at}
 use Rattle.cards.proofs.tables.fill_table.Goals as goal
 
 pub loop-line-init : goal.loop-line-init

@@ -1,10 +1,10 @@
-use Rattle.std.proofs.Common.{◌≡◌, ℕ, ◌+◌, ◌<◌, List, [], ◌∷◌, ◌++◌, map, length, get_or, take, set, sym, refl, ap, ◌∙◌, arith}
+use Rattle.std.proofs.Common.{◌≡◌, ℕ, ◌+◌, ◌<◌, List, [], ◌∷◌, ◌++◌, map, length, get_or, take, sym, ap, ◌∙◌, arith}
 use Rattle.std.proofs.lemmas.List.{take_more, take_all, map-append, length-map, length-take-le}
 use Rattle.cards.specs.declared.lines.Line.{Line}
 use Rattle.cards.specs.Contents.{laid}
 use Rattle.cards.specs.Words.{line_word}
 use Rattle.cards.proofs.Laid.{laid_none, laid_step}
-use Rattle.cards.specs.Tabled.{no_line}
+use Rattle.cards.proofs.Tabled.{no_line}
 use Rattle.cards.proofs.writing.write_lines.Goals as goal
 
 pub loop-line-init : goal.loop-line-init

@@ -1,4 +1,4 @@
-use Rattle.std.proofs.Common.{◌≡◌, ℕ, ◌+◌, ◌^◌, ◌<◌, List, [], ◌∷◌, ◌++◌, map, length, sym, refl, ap, ◌∙◌, append-nil, arith, length-append}
+use Rattle.std.proofs.Common.{◌≡◌, ℕ, ◌^◌, ◌<◌, List, [], ◌∷◌, ◌++◌, map, length, sym, refl, ap, ◌∙◌, append-nil, arith, length-append}
 use Rattle.std.proofs.lemmas.List.{map-append, length-map}
 use Rattle.lts.specs.Sets.{members}
 use Rattle.lts.specs.declared.members.Members.{Members}
@@ -12,7 +12,7 @@ loop-state-init c = (tt, tt, omega arith, sym (laid_none c.args.at c.args.out.no
 
 -- the set that is walked over
 walked : (c : goal.In-Some) → c.into_iter-state-iterator.result.rest ≡ c.args.passing.bits
-walked c = ap (λ (m : Members). m.rest) c.into_iter-state-iterator.ensures.into_iter-gives ∙ c.members-state-items.ensures.value
+walked c = ap (λ (m : Members). m.rest) c.into_iter-state-iterator.ensures.into_iter_gives ∙ c.members-state-items.ensures.value
 
 small : (c : goal.In-Some) → c.into_iter-state-iterator.result.rest < 2 ^ 64
 small c = omega (arith, walked c)
@@ -60,7 +60,7 @@ loop-state-preserved c =
 pub returns : goal.returns
 returns c =
     let e : c.into_iter-state-iterator.result.rest ≡ c.args.passing.bits =
-    ap (λ (m : Members). m.rest) c.into_iter-state-iterator.ensures.into_iter-gives ∙ c.members-state-items.ensures.value in
+    ap (λ (m : Members). m.rest) c.into_iter-state-iterator.ensures.into_iter_gives ∙ c.members-state-items.ensures.value in
     let all : members c.args.passing.bits ≡ c.loop-state.yielded =
     ap members (sym e) ∙ c.loop-state.invariant.4 ∙ ap (λ (r : List ℕ). c.loop-state.yielded ++ r) c.in-None.ensures.steps.0 ∙ append-nil c.loop-state.yielded in
     c.loop-state.invariant.3 ∙ ap (λ (qs : List ℕ). laid c.args.at (map passing_word qs) c.args.out.now) (sym all)

@@ -1,6 +1,6 @@
 use Rattle.std.proofs.Common.{sym, ◌∙◌, arith}
 use Rattle.cards.specs.Meant.{targets_outside}
-use Rattle.cards.specs.Tabled.{asked}
+use Rattle.cards.proofs.Tabled.{asked}
 use Rattle.cards.proofs.card_calls.WrittenCardLts.hidden.Goals as goal
 
 pub returns-then-state-lt64 : goal.returns-then-state-lt64

@@ -1,6 +1,6 @@
-use Rattle.std.proofs.Common.{◌≡◌, ◌<◌, ◌≤◌, cond, ltb, sym, ◌∙◌, inl, inr, arith, le-ltb, lt-ltb}
+use Rattle.std.proofs.Common.{◌<◌, ltb, sym, ◌∙◌, inl, inr, arith, le-ltb, lt-ltb}
 use Rattle.cards.specs.Meant.{targets_outside, cond_zero}
-use Rattle.cards.specs.Tabled.{asked}
+use Rattle.cards.proofs.Tabled.{asked}
 use Rattle.cards.proofs.card_calls.WrittenCardLts.visible.Goals as goal
 
 pub returns-then-action-lt32 : goal.returns-then-action-lt32

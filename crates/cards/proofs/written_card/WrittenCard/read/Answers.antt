@@ -3,7 +3,7 @@ use Rattle.cards.specs.declared.lines.Role.TheVariants.{Card}
 use Rattle.cards.specs.Cards.{contents, contents_with, told, after}
 use Rattle.cards.specs.Contents.{read_words}
 use Rattle.cards.proofs.Named.{says_read}
-use Rattle.cards.specs.RoundTrip.{read_back, read_valid}
+use Rattle.cards.proofs.RoundTrip.{read_back, read_valid}
 use Rattle.cards.proofs.written_card.WrittenCard.read.Goals as goal
 
 pub returns : goal.returns

@@ -1,11 +1,11 @@
-use Rattle.std.proofs.Common.{◌≡◌, ℕ, ◌/◌, ◌%◌, ◌≤◌, true, List, map, length, Ok, Err, sym, refl, ap, ◌∙◌, subst, ap₂, arith}
+use Rattle.std.proofs.Common.{ℕ, ◌/◌, ◌%◌, List, map, length, Ok, sym, refl, ap, ◌∙◌, ap₂, arith}
 use Rattle.std.proofs.lemmas.Result.{err_from_is_err_and}
 use Rattle.cards.specs.declared.lines.Line.{Line}
-use Rattle.cards.specs.Contents.{Contents, held, read_words}
+use Rattle.cards.specs.Contents.{held, read_words}
 use Rattle.cards.specs.Lines.{lines_fit, rising, targets}
 use Rattle.cards.specs.Words.{line_word}
-use Rattle.cards.specs.RoundTrip.{taken_sized, taken_counted, taken_fit, taken_rising}
-use Rattle.cards.specs.Tabled.{lines_fit_wider}
+use Rattle.cards.proofs.RoundTrip.{taken_sized, taken_counted, taken_fit, taken_rising}
+use Rattle.cards.proofs.Tabled.{lines_fit_wider}
 use Rattle.cards.proofs.written_card.WrittenCard.read_as.Goals as goal
 
 pub returns-in_err-head : goal.returns-in_err-head
@@ -37,22 +37,18 @@ invariant_of-self c =
     let h = c.in_ok-head.head in
     let s = taken_sized c.args.role c.args.words.now h e in
     let l = c.collect-passing.ensures.lines in
-    let n = taken_counted c.args.role c.args.words.now h e in (
-      (s.some, s.most, s.starts),
-      (
-        ap (lines_fit h.states) l ∙ taken_fit c.args.role c.args.words.now h e,
-        (
-          ap (λ (ls : List Line). rising 0 (map line_word ls)) l ∙ taken_rising c.args.role c.args.words.now h e,
-          (
-            (omega (arith, c.collect-passing.new.lines.ok.0, ap length l, n, s.few), omega (arith, c.collect-passing.ensures.room, c.args.self.now.few.1)),
-            (
-              c.fill_table.ensures.len ∙ c.args.self.now.wide,
-              (λ i. c.fill_table.ensures.tabled i ∙ ap (λ (ls : List Line). targets ls (i / 33) (i % 33)) c.deref.ensures.value, tt),
-            ),
-          ),
-        ),
-      ),
-    )
+    let n = taken_counted c.args.role c.args.words.now h e in
+    record {
+      sized = (s.some, s.most, s.starts);
+      sound = ap (lines_fit h.states) l ∙ taken_fit c.args.role c.args.words.now h e;
+      ordered = ap (λ (ls : List Line). rising 0 (map line_word ls)) l ∙ taken_rising c.args.role c.args.words.now h e;
+      few = (
+        omega (arith, c.collect-passing.new.lines.ok.0, ap length l, n, s.few),
+        omega (arith, c.collect-passing.ensures.room, c.args.self.now.few.1),
+      );
+      wide = c.fill_table.ensures.len ∙ c.args.self.now.wide;
+      tabled = λ i. c.fill_table.ensures.tabled i ∙ ap (λ (ls : List Line). targets ls (i / 33) (i % 33)) c.deref.ensures.value;
+    }
 
 pub returns : goal.returns
 unfolding read_words

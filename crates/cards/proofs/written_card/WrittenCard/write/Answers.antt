@@ -1,12 +1,12 @@
-use Rattle.std.proofs.Common.{◌≡◌, ℕ, List, length, refl, ap, ◌∙◌, arith}
+use Rattle.std.proofs.Common.{ℕ, length, refl, ap, ◌∙◌, arith}
 use Rattle.std.proofs.lemmas.Nat.{pow_pos}
 use Rattle.cards.specs.declared.lines.Role.TheVariants.{Card}
 use Rattle.cards.specs.Cards.{contents, contents_with}
 use Rattle.cards.specs.Contents.{written, wrote, buffer}
 use Rattle.lts.proofs.Lowest.{members_none}
 use Rattle.cards.proofs.Laid.{written_length}
-use Rattle.cards.specs.Holding.{held_valid}
-use Rattle.cards.specs.RoundTrip.{read_written}
+use Rattle.cards.proofs.Holding.{held_valid}
+use Rattle.cards.proofs.RoundTrip.{read_written}
 use Rattle.cards.proofs.written_card.WrittenCard.write.Goals as goal
 
 pub returns : goal.returns

@@ -1,13 +1,13 @@
-use Rattle.std.proofs.Common.{◌≡◌, sym, ap}
+use Rattle.std.proofs.Common.{sym, ap}
 use Rattle.cards.specs.declared.lines.Role.TheVariants.{Test}
 use Rattle.cards.specs.Cards.{contents_with, told, after}
 use Rattle.cards.specs.Tests.{test_contents}
 use Rattle.cards.proofs.Named.{says_read, passing_read}
-use Rattle.cards.specs.RoundTrip.{read_back, read_valid}
+use Rattle.cards.proofs.RoundTrip.{read_back, read_valid}
 use Rattle.cards.proofs.written_test.WrittenTest.read.Goals as goal
 
 pub invariant_of-self-2 : goal.invariant_of-self-2
-invariant_of-self-2 c = ((read_valid Test c.args.words.now _ c.in_ok-self.ensures.taken).passing, tt)
+invariant_of-self-2 c = record { within = (read_valid Test c.args.words.now _ c.in_ok-self.ensures.taken).passing }
 
 pub returns : goal.returns
 returns c =

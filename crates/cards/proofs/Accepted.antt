@@ -1,20 +1,17 @@
 -- The words that are accepted, by their parts. Assumes nothing.
-use Rattle.std.specs.Prelude.{◌≡◌, ℕ, zero, suc, ◌+◌, ◌-◌, ◌*◌, ◌/◌, ◌%◌, ◌^◌, ◌<◌, ◌≤◌, Bool, true, false, cond, ◌&&◌, List, [], ◌∷◌, ◌++◌, map, length, Some, None, Ok, Err, Option, Result, nat_lt, refl}
-use Rattle.std.proofs.Common.{sym, ap, ap₂, subst, ◌∙◌, arith, eq-eqb, eqb-true, lt-ltb, ltb-true}
-use Rattle.cards.specs.declared.faults.Reason.{Reason}
-use Rattle.cards.specs.declared.faults.Reason.TheVariants.{Missing, Kind, Range, Order, Lines, Trailing}
+use Rattle.std.specs.Prelude.{◌≡◌, ℕ, ◌+◌, ◌-◌, ◌<◌, Bool, true, false, cond, List, [], ◌∷◌, map, Some, None, Ok, Err, Option, Result, nat_lt, refl}
+use Rattle.std.proofs.Common.{sym, ap₂, subst, arith, eq-eqb, eqb-true, lt-ltb, ltb-true}
+use Rattle.cards.specs.declared.faults.Reason.TheVariants.{Range, Order, Lines}
 use Rattle.cards.specs.declared.faults.WordFault.{WordFault}
 use Rattle.cards.specs.declared.lines.Head.{Head}
-use Rattle.cards.specs.declared.lines.Line.{Line as LineT}
 use Rattle.cards.specs.declared.lines.Progress.{Progress}
-use Rattle.cards.specs.declared.lines.Progress.TheVariants.{Start, Body, Ended}
+use Rattle.cards.specs.declared.lines.Progress.TheVariants.{Body, Ended}
 use Rattle.cards.specs.declared.lines.Role.{Role}
-use Rattle.cards.specs.declared.lines.Role.TheVariants.{Card, Test}
 use Rattle.cards.specs.declared.lines.Word.{Word}
 use Rattle.cards.specs.declared.lines.Word.TheVariants.{Line, Passing, End}
 use Rattle.cards.specs.Words.{encode, decode}
-use Rattle.cards.specs.Reading.{within, counted, judged, moved, onward, step, ended, and_then, check_from}
-use Rattle.cards.specs.Parts.{PartFits, end_fits, decode_encode, decode_sound}
+use Rattle.cards.specs.Reading.{within, counted, judged, moved, onward, step, and_then, check_from}
+use Rattle.cards.proofs.Parts.{PartFits, end_fits, decode_encode, decode_sound}
 
 -- true is not false, and what is Ok is no Err
 pub clash : {A : Type 0} {x : A} {e : WordFault} → ◌≡◌ {A = Result A WordFault} (Err e) (Ok x) → ⊥

@@ -1,6 +1,6 @@
 -- The table of a written card holds what its lines lead to. Assumes nothing.
-use Rattle.std.specs.Prelude.{◌≡◌, ℕ, zero, suc, ◌+◌, ◌*◌, ◌/◌, ◌%◌, ◌^◌, ◌<◌, ◌≤◌, Bool, true, false, cond, ◌&&◌, ◌≢◌, List, [], ◌∷◌, ◌++◌, length, get_or, take, set, replicate, bit_or, nat_lt, slice_index_or, slice_set, refl}
-use Rattle.std.proofs.Common.{sym, ap, subst, ◌∙◌, inl, inr, arith, not-suc-le-zero, le_of_suc-le-suc, ltb-true, eq-eqb, ne_eqb, lt-ltb}
+use Rattle.std.specs.Prelude.{◌≡◌, ℕ, zero, suc, ◌+◌, ◌*◌, ◌/◌, ◌%◌, ◌^◌, ◌<◌, ◌≤◌, true, ◌≢◌, List, [], ◌∷◌, ◌++◌, length, get_or, take, replicate, bit_or, slice_index_or, slice_set, refl}
+use Rattle.std.proofs.Common.{sym, ap, subst, ◌∙◌, inl, inr, arith, not-suc-le-zero, le_of_suc-le-suc, eq-eqb, ne_eqb, lt-ltb}
 use Rattle.std.specs.Int.Bits.{or_zero_l, or_zero_r}
 use Rattle.std.proofs.lemmas.Nat.{div-mul-add, mod-mul-add}
 use Rattle.std.proofs.lemmas.List.{take_more, get_or-set_same, get_or-set_other, get_or_read, get_or_past, get_or-replicate, length-replicate}
@@ -8,37 +8,10 @@ use Rattle.std.proofs.lemmas.Bool.{cases_eq, cases_lt}
 use Rattle.lts.specs.declared.sets.StateSet.{StateSet}
 use Rattle.lts.specs.Sets.{inserted}
 use Rattle.lts.proofs.Membership.{or_assoc}
-use Rattle.cards.specs.declared.lines.Label.{Label}
-use Rattle.cards.specs.declared.lines.Label.TheVariants.{Action, Silent}
+use Rattle.cards.specs.declared.lines.Label.TheVariants.{Action}
 use Rattle.cards.specs.declared.lines.Line.{Line}
-use Rattle.cards.specs.Lines.{column, place, hit, targets, label_fits, line_fits, lines_fit, no_states}
-
--- both of two tests
-pub both : (a b : Bool) → (a && b) ≡ true → (a ≡ true) × (b ≡ true)
-both true b e = (refl, e)
-both false b e = absurd (let z : ◌≡◌ {A = ℕ} 0 1 = cc in omega arith)
-
-column_below : (x : Label) → label_fits x ≡ true → column x < 33
-column_below (Action a) e = omega (arith, ltb-true a 32 e)
-column_below Silent e = omega arith
-
--- what a line that fits keeps to
-pub record Fits (n : ℕ) (l : Line) : Type 0 where
-  pub from_below : l.from < n
-  pub to_below : l.to < n
-  pub label : label_fits l.label ≡ true
-  pub column_below : column l.label < 33
-
-pub fits : (n : ℕ) (l : Line) → line_fits n l ≡ true → Fits n l
-fits n l e =
-    let a = both (nat_lt l.from n && nat_lt l.to n) (label_fits l.label) e in
-    let b = both (nat_lt l.from n) (nat_lt l.to n) a.0 in
-    record {
-      from_below = ltb-true l.from n b.0;
-      to_below = ltb-true l.to n b.1;
-      label = a.1;
-      column_below = column_below l.label a.1;
-    }
+use Rattle.cards.specs.Meant.{both, Fits, fits}
+use Rattle.cards.specs.Lines.{column, place, hit, targets, line_fits, lines_fit, no_states}
 
 pub line_at : (n : ℕ) (ls : List Line) (i : ℕ) (d : Line) → lines_fit n ls ≡ true → i < length ls → line_fits n (slice_index_or ls i d) ≡ true
 unfolding lines_fit

@@ -1,6 +1,6 @@
 -- Taking a word apart and putting it together undo each other. Assumes nothing.
-use Rattle.std.specs.Prelude.{◌≡◌, ℕ, zero, suc, ◌+◌, ◌*◌, ◌/◌, ◌%◌, ◌^◌, ◌<◌, ◌≤◌, Bool, true, false, cond, ◌&&◌, ◌⊎◌, Some, None, Option, ◌==◌, refl}
-use Rattle.std.proofs.Common.{sym, ap, subst, ◌∙◌, inl, inr, arith, eq-eqb, ne_eqb, eqb-true, lt-ltb, ltb-true}
+use Rattle.std.specs.Prelude.{◌≡◌, ℕ, ◌+◌, ◌*◌, ◌^◌, ◌<◌, Bool, true, false, cond, ◌&&◌, ◌⊎◌, Some, None, Option, ◌==◌, refl}
+use Rattle.std.proofs.Common.{subst, inl, inr, arith, eq-eqb, eqb-true, lt-ltb, ltb-true}
 use Rattle.cards.specs.declared.lines.Label.{Label}
 use Rattle.cards.specs.declared.lines.Label.TheVariants.{Action, Silent}
 use Rattle.cards.specs.declared.lines.Line.{Line as LineT}
@@ -10,7 +10,7 @@ use Rattle.cards.specs.declared.lines.Role.{Role}
 use Rattle.cards.specs.declared.lines.Role.TheVariants.{Card, Test}
 use Rattle.cards.specs.Words.{bits, kind, line_word, passing_word, end_word, encode, is_test, by_kind, exactly, decode}
 use Rattle.cards.specs.Lines.{label_fits}
-use Rattle.cards.specs.Tabled.{both}
+use Rattle.cards.specs.Meant.{both}
 
 -- the numbers of a part fit their bits, and only a test has passing states
 unfoldable pub PartFits : Role → Word → Type 0

@@ -1,14 +1,14 @@
 -- The set of passing states that a list names. Assumes nothing.
-use Rattle.std.specs.Prelude.{◌≡◌, ℕ, zero, suc, ◌+◌, ◌^◌, ◌<◌, ◌≤◌, true, cond, ◌⊎◌, List, [], ◌∷◌, bit_or, refl}
-use Rattle.std.proofs.Common.{sym, ap, subst, ◌∙◌, inl, inr, arith, pow_mono, lt-ltb}
+use Rattle.std.specs.Prelude.{◌≡◌, ℕ, ◌^◌, ◌<◌, ◌≤◌, ◌⊎◌, List, [], ◌∷◌, bit_or, refl}
+use Rattle.std.proofs.Common.{sym, subst, inl, inr, arith, lt-ltb}
 use mathlib.Core.List.Memᴰ
 use mathlib.Core.List.{Memᴰ}
 use Rattle.std.proofs.lemmas.Nat.{pow_below, or_lt}
-use Rattle.lts.specs.Sets.{In, inserted, members, Ascending, Lists}
+use Rattle.lts.specs.Sets.{In, inserted, members, Ascending}
 use Rattle.lts.proofs.Membership.{in_or, or_left, or_right, in_power, power_in, not_empty}
 use Rattle.lts.proofs.Lowest.{lists, lists_unique}
 use Rattle.cards.specs.Contents.{with_all}
-use Rattle.cards.specs.Sorted.{Below}
+use Rattle.cards.proofs.Sorted.{Below}
 
 grown : (q s : ℕ) → q < 64 → inserted 64 q s ≡ bit_or s (2 ^ q)
 grown q s h = rw (lt-ltb q 64 h)

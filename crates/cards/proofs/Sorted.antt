@@ -1,7 +1,7 @@
 -- What good parts are: lines, then passing states, then the end, each in order. Assumes nothing.
-use Rattle.std.specs.Prelude.{◌≡◌, ℕ, zero, suc, ◌+◌, ◌-◌, ◌*◌, ◌/◌, ◌%◌, ◌^◌, ◌<◌, ◌≤◌, Bool, true, false, cond, ◌&&◌, List, [], ◌∷◌, ◌++◌, map, length, Some, None, nat_lt}
+use Rattle.std.specs.Prelude.{◌≡◌, ℕ, ◌-◌, ◌*◌, ◌^◌, ◌<◌, ◌≤◌, true, List, [], ◌∷◌, ◌++◌, map, length, nat_lt}
 use Rattle.std.proofs.Math.Path.{refl, sym, ap}
-use Rattle.std.proofs.Common.{ap₂, subst, ◌∙◌, arith, lt-ltb, ltb-true}
+use Rattle.std.proofs.Common.{arith, lt-ltb, ltb-true}
 use Rattle.lts.specs.Sets.{Above, Ascending}
 use Rattle.cards.specs.declared.lines.Label.{Label}
 use Rattle.cards.specs.declared.lines.Label.TheVariants.{Action, Silent}
@@ -10,12 +10,12 @@ use Rattle.cards.specs.declared.lines.Role.{Role}
 use Rattle.cards.specs.declared.lines.Role.TheVariants.{Card, Test}
 use Rattle.cards.specs.declared.lines.Word.{Word}
 use Rattle.cards.specs.declared.lines.Word.TheVariants.{Line, Passing, End}
-use Rattle.cards.specs.Words.{line_word, passing_word, end_word, encode, decode, is_test}
-use Rattle.cards.specs.Lines.{label_fits, line_fits, lines_fit, rising}
-use Rattle.cards.specs.Reading.{within, as_line, as_passing, lines_in, passing_in}
-use Rattle.cards.specs.Parts.{PartFits, end_fits, test_fits, decode_encode}
-use Rattle.cards.specs.Accepted.{Good}
-use Rattle.cards.specs.Tabled.{both}
+use Rattle.cards.specs.Words.{line_word, passing_word, end_word, encode}
+use Rattle.cards.specs.Lines.{label_fits, lines_fit, rising}
+use Rattle.cards.specs.Reading.{lines_in, passing_in}
+use Rattle.cards.proofs.Parts.{PartFits, end_fits, test_fits, decode_encode}
+use Rattle.cards.proofs.Accepted.{Good}
+use Rattle.cards.specs.Meant.{both}
 
 unfoldable pub lines_of : List Word → List LineT
 lines_of [] = []

@@ -1,11 +1,11 @@
 -- Writing what was read gives the words back, and reading what was written gives the card back. Assumes nothing.
-use Rattle.std.specs.Prelude.{◌≡◌, ℕ, zero, suc, ◌+◌, ◌-◌, ◌*◌, ◌/◌, ◌%◌, ◌^◌, ◌<◌, ◌≤◌, Bool, true, false, cond, ◌&&◌, List, [], ◌∷◌, ◌++◌, map, length, Some, None, Ok, Err, Result, ◌==◌, nat_eq, nat_le, nat_lt, refl}
+use Rattle.std.specs.Prelude.{◌≡◌, ℕ, ◌*◌, ◌^◌, ◌<◌, ◌≤◌, Bool, true, false, cond, ◌&&◌, List, [], ◌∷◌, ◌++◌, map, length, None, Ok, Err, Result, ◌==◌, nat_eq, nat_le, nat_lt, refl}
 use Rattle.std.proofs.Math.Path.{sym, ap, ap₂, subst}
 use Rattle.std.proofs.Common.{◌∙◌, arith, pow_mono}
 use mathlib.Core.List.{Memᴰ}
-use borrow.Author.Tests.{eq-eqb, eqb-true, lt-ltb, ltb-true, le-leb, leb-true}
+use borrow.Author.Tests.{eqb-true, lt-ltb, ltb-true, le-leb, leb-true}
 use Rattle.std.proofs.lemmas.Nat.{pow_pos}
-use Rattle.lts.specs.Sets.{In, Above, Ascending, Lists, members}
+use Rattle.lts.specs.Sets.{Above, Ascending, Lists, members}
 use Rattle.lts.proofs.Membership.{same_members, members_below}
 use Rattle.lts.proofs.Lowest.{lists, members_none}
 use Rattle.cards.specs.declared.faults.WordFault.{WordFault}
@@ -14,7 +14,7 @@ use Rattle.cards.specs.declared.lines.Label.{Label}
 use Rattle.cards.specs.declared.lines.Label.TheVariants.{Action, Silent}
 use Rattle.cards.specs.declared.lines.Line.{Line as LineT}
 use Rattle.cards.specs.declared.lines.Progress.{Progress}
-use Rattle.cards.specs.declared.lines.Progress.TheVariants.{Start, Body, Ended}
+use Rattle.cards.specs.declared.lines.Progress.TheVariants.{Body}
 use Rattle.cards.specs.declared.lines.Role.{Role}
 use Rattle.cards.specs.declared.lines.Role.TheVariants.{Card, Test}
 use Rattle.cards.specs.declared.lines.Word.{Word}
@@ -24,11 +24,11 @@ use Rattle.cards.specs.Lines.{line_fits, lines_fit, rising}
 use Rattle.cards.specs.declared.faults.Reason.TheVariants.{Kind, Range}
 use Rattle.cards.specs.Reading.{fault, head_of, head_fits, checked_head, begun, and_then, check_from, check, lines_in, passing_in}
 use Rattle.cards.specs.Words.{bits, kind, line_word, head_word, passing_word, end_word, encode, decode, is_test}
-use Rattle.cards.specs.Accepted.{Good, Parts, accepted, accepts, clash}
-use Rattle.cards.specs.Parts.{PartFits}
-use Rattle.cards.specs.Passing.{with_below, with_exact, members_with, below_wider}
-use Rattle.cards.specs.Sorted.{lines_of, passing_of, Below, rising_weaker, line_low, lines_in_lem, passing_in_lem, lines_counted, lines_fit_lem, lines_rise, in_order, passing_ascends, passing_below, card_passes_none}
-use Rattle.cards.specs.Tabled.{both, Fits, fits}
+use Rattle.cards.proofs.Accepted.{Good, accepted, accepts, clash}
+use Rattle.cards.proofs.Parts.{PartFits}
+use Rattle.cards.proofs.Passing.{with_below, with_exact, members_with, below_wider}
+use Rattle.cards.proofs.Sorted.{lines_of, passing_of, Below, rising_weaker, line_low, lines_in_lem, passing_in_lem, lines_counted, lines_fit_lem, lines_rise, in_order, passing_ascends, passing_below, card_passes_none}
+use Rattle.cards.specs.Meant.{both, fits}
 
 -- a head's numbers are in range
 pub record Sized (h : Head) : Type 0 where
