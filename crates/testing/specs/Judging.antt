@@ -12,7 +12,7 @@ use Rattle.testing.specs.declared.ground.Ground.TheVariants.{Reach, Settle}
 use Rattle.testing.specs.declared.ground.Split.{Split}
 use Rattle.testing.specs.declared.ground.Shown.{Shown}
 use Rattle.testing.specs.Splits.{Splits}
-use Rattle.testing.specs.Rule.{Listed, offer_rule}
+use Rattle.testing.specs.Rule.{Listed, split_by, offer_rule}
 
 -- the sets of a list, as numbers
 unfoldable pub numbers : List ActionSet → List ℕ
@@ -25,7 +25,7 @@ number None = None
 number (Some x) = Some x.bits
 
 abbrev pub split_on : Ground → Side → Option Split
-split_on g p = Some (record { ground = g; passer = p })
+split_on g p = Some (split_by g p)
 
 -- where both can do the trace: whether each is convergent along it, and the minimal sets
 abbrev pub by_convergence : Bool → Bool → List ℕ → List ℕ → Option Split

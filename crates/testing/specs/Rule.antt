@@ -6,6 +6,7 @@ use Rattle.lts.specs.Traces.{Minimal}
 use Rattle.traces.specs.Families.{Member, covered}
 use Rattle.testing.specs.declared.ground.Side.{Side}
 use Rattle.testing.specs.declared.ground.Side.TheVariants.{Left, Right}
+use Rattle.testing.specs.declared.ground.Ground.{Ground}
 use Rattle.testing.specs.declared.ground.Ground.TheVariants.{Offer}
 use Rattle.testing.specs.declared.ground.Split.{Split}
 use Rattle.testing.specs.Distinguish.{others}
@@ -16,9 +17,13 @@ unfoldable pub first_bare : List ℕ → List ℕ → Option ℕ
 first_bare [] ys = None
 first_bare (x ∷ xs) ys = cond (covered x ys) (first_bare xs ys) (Some x)
 
+-- the split on a ground, with the side that passes
+abbrev pub split_by : (ground : Ground) → Side → Split
+split_by g p = record { ground = g; passer = p }
+
 -- the split by the set S, which the given side passes
 abbrev pub offer_split : ℕ → Side → Split
-offer_split S p = record { ground = Offer (record { bits = others S }); passer = p }
+offer_split S p = split_by (Offer (record { bits = others S })) p
 
 -- what comes of a set found on the left, or failing that on the right: the passer is the other side
 abbrev pub by_offer : Option ℕ → Option ℕ → Option Split
