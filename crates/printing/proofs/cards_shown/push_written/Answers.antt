@@ -7,6 +7,6 @@ use Rattle.printing.proofs.cards_shown.push_written.Goals as goal
 
 pub returns : goal.returns
 returns c =
-    let w = c.in_Ok.ensures in
-    let f = front (written (contents c.args.card.now)) (replicate 258 0) c.write.new.out c.in_Ok.count w.told w.after in
+    let w = c.in-Ok.ensures in
+    let f = front (written (contents c.args.card.now)) (replicate 258 0) c.write.new.out c.in-Ok.count w.told w.after in
     c.in_ok-push_words.ensures ∙ ap (λ (ws : List ℕ). string_bytes c.args.text.now ++ words_text ws) f

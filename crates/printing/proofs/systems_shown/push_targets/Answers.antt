@@ -28,4 +28,4 @@ returns c =
     let p = c.args.from in
     let l = c.args.label in
     appended_all _ (string_bytes c.loop-to.text) _ c.loop-to.invariant.2 (targets_none p l _ c.in-None.ensures.steps.0)
-    ∙ ap (λ (m : Members). string_bytes c.args.text.now ++ targets_text p l (members m.rest)) c.into_iter-to-iterator.ensures.into_iter-gives
+    ∙ ap (λ (m : Members). string_bytes c.args.text.now ++ targets_text p l (members m.rest)) c.into_iter-to-iterator.ensures.into_iter_gives

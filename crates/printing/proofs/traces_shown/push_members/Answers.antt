@@ -22,7 +22,7 @@ loop-member-preserved c =
 pub returns : goal.returns
 returns c =
     let first = string_bytes c.push_number.new.text in
-    let walked = ap (λ (m : Members). blanked_text (members m.rest)) c.into_iter-member-iterator.ensures.into_iter-gives in
+    let walked = ap (λ (m : Members). blanked_text (members m.rest)) c.into_iter-member-iterator.ensures.into_iter_gives in
     let all = appended_all _ (string_bytes c.loop-member.text) _ c.loop-member.invariant.2 (blanked_none _ c.in-None.ensures.steps.0) in
     numbers_more (members c.args.members.rest) (members c.next.new.self.rest) c.in-Some.lowest (string_bytes c.args.text.now) first (string_bytes c.loop-member.text)
     c.in-Some.ensures.steps c.in_ok-push_number.ensures (all ∙ ap (λ (bs : List ℕ). first ++ bs) walked)
