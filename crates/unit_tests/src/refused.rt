@@ -3,18 +3,21 @@ use cards::faults::*;
 use cards::written_card::WrittenCard;
 use cards::written_test::WrittenTest;
 use lts::system::{Lts, Test};
+use std::alloc::Global;
+use std::process::Abort;
 use std::test::*;
 
 // What a file is refused for.
 #[derive(Clone, Copy)]
 struct Refusal {
+    heap: Global,
     reason: Reason,
 }
 
 impl Refusal {
     // The words are no card, and the card that was read before stays: action 0 leads from state 0 to state 1.
-    fn card(self, rt: &HostRuntime, place: usize, words: &[u32]) -> Result<(), Fail> {
-        let mut card = WrittenCard::new(rt.alloc())?;
+    fn card(self, rt: &impl Abort, place: usize, words: &[u32]) -> Result<(), Fail> {
+        let mut card = WrittenCard::new(self.heap)?;
         card.read(&[0x1001_0002, 0x2000_0001, 0x5000_0000])?;
         let fault = WordFault {
             reason: self.reason,
@@ -29,8 +32,8 @@ impl Refusal {
     }
 
     // The words are no test, and the test that was read before stays: a silent transition leads from state 0 to state 1, which passes.
-    fn test(self, rt: &HostRuntime, place: usize, words: &[u32]) -> Result<(), Fail> {
-        let mut test = WrittenTest::new(rt.alloc())?;
+    fn test(self, rt: &impl Abort, place: usize, words: &[u32]) -> Result<(), Fail> {
+        let mut test = WrittenTest::new(self.heap)?;
         test.read(&[0x1001_0002, 0x3000_0001, 0x4000_0001, 0x5000_0000])?;
         let fault = WordFault {
             reason: self.reason,
@@ -50,6 +53,7 @@ impl Refusal {
 #[test]
 fn missing(rt: HostRuntime) -> Result<(), Fail> {
     let missing = Refusal {
+        heap: rt.alloc(),
         reason: Reason::Missing,
     };
     missing.card(&rt, 0, &[])?;
@@ -62,6 +66,7 @@ fn missing(rt: HostRuntime) -> Result<(), Fail> {
 #[test]
 fn kind(rt: HostRuntime) -> Result<(), Fail> {
     let kind = Refusal {
+        heap: rt.alloc(),
         reason: Reason::Kind,
     };
     kind.card(&rt, 0, &[0x5000_0000])?;
@@ -78,6 +83,7 @@ fn kind(rt: HostRuntime) -> Result<(), Fail> {
 #[test]
 fn range_of_the_head(rt: HostRuntime) -> Result<(), Fail> {
     let range = Refusal {
+        heap: rt.alloc(),
         reason: Reason::Range,
     };
     range.card(&rt, 0, &[0x1000_0000, 0x5000_0000])?;
@@ -90,6 +96,7 @@ fn range_of_the_head(rt: HostRuntime) -> Result<(), Fail> {
 #[test]
 fn range(rt: HostRuntime) -> Result<(), Fail> {
     let range = Refusal {
+        heap: rt.alloc(),
         reason: Reason::Range,
     };
     range.card(
@@ -112,6 +119,7 @@ fn range(rt: HostRuntime) -> Result<(), Fail> {
 #[test]
 fn order(rt: HostRuntime) -> Result<(), Fail> {
     let order = Refusal {
+        heap: rt.alloc(),
         reason: Reason::Order,
     };
     order.card(
@@ -135,6 +143,7 @@ fn order(rt: HostRuntime) -> Result<(), Fail> {
 #[test]
 fn lines(rt: HostRuntime) -> Result<(), Fail> {
     let lines = Refusal {
+        heap: rt.alloc(),
         reason: Reason::Lines,
     };
     lines.card(
@@ -149,6 +158,7 @@ fn lines(rt: HostRuntime) -> Result<(), Fail> {
 #[test]
 fn trailing(rt: HostRuntime) -> Result<(), Fail> {
     let trailing = Refusal {
+        heap: rt.alloc(),
         reason: Reason::Trailing,
     };
     trailing.card(&rt, 2, &[0x1000_0001, 0x5000_0000, 0x5000_0000])?;
@@ -158,12 +168,15 @@ fn trailing(rt: HostRuntime) -> Result<(), Fail> {
 // Where one word has two faults, the lower number is told.
 #[test]
 fn first_of_two(rt: HostRuntime) -> Result<(), Fail> {
+    let heap = rt.alloc();
     let kind = Refusal {
+        heap,
         reason: Reason::Kind,
     };
     kind.card(&rt, 0, &[0x2000_0000])?;
     kind.card(&rt, 1, &[0x1001_0001, 0x2002_0001, 0x5000_0000])?;
     let range = Refusal {
+        heap,
         reason: Reason::Range,
     };
     range.card(
@@ -172,6 +185,7 @@ fn first_of_two(rt: HostRuntime) -> Result<(), Fail> {
         &[0x1002_0002, 0x2000_0800, 0x2000_0002, 0x5000_0000],
     )?;
     let order = Refusal {
+        heap,
         reason: Reason::Order,
     };
     order.card(
