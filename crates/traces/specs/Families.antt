@@ -1,6 +1,6 @@
 -- Families of sets of actions as ascending lists in which no set contains another, and the minimal acceptance sets. Assumes nothing.
-use Rattle.std.specs.Prelude.{◌≡◌, ℕ, zero, suc, ◌<◌, Bool, true, false, cond, not, ◌&&◌, ◌||◌, ◌⊎◌, List, [], ◌∷◌, ◌==◌, bit_and, nat_lt}
-use Rattle.lts.specs.Sets.{has, Subset}
+use Rattle.std.specs.Prelude.{◌≡◌, ℕ, zero, suc, Bool, true, false, cond, not, ◌&&◌, ◌||◌, ◌⊎◌, List, [], ◌∷◌, ◌==◌, bit_and, nat_lt}
+use Rattle.lts.specs.Sets.{has}
 use Rattle.lts.specs.System.{System}
 use Rattle.lts.specs.Traces.{offer}
 

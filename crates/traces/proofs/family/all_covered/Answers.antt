@@ -1,4 +1,4 @@
-use Rattle.std.proofs.Common.{◌≡◌, ◌+◌, Bool, true, false, ◌&&◌, drop, sym, ap, ◌∙◌, arith}
+use Rattle.std.proofs.Common.{◌+◌, Bool, ◌&&◌, drop, sym, ap, ◌∙◌, arith}
 use Rattle.traces.specs.Families.{all_covered}
 use Rattle.traces.specs.Offered.{bits_of}
 use Rattle.traces.proofs.FamilySteps.{all_more, all_none}

@@ -1,6 +1,6 @@
-use Rattle.std.proofs.Common.{◌≡◌, ◌<◌, length, vec_items, vec_len, vec_capacity, sym, ap, ◌∙◌, arith}
-use Rattle.traces.specs.Offered.{bits_of, free}
-use Rattle.std.proofs.lemmas.List.Filters.{FiltersInPlace, FiltersInPlace-all, FiltersInPlace-more_no, FiltersInPlace-more_set}
+use Rattle.std.proofs.Common.{◌<◌, length, vec_items, sym, ap, ◌∙◌, arith}
+use Rattle.traces.specs.Offered.{bits_of}
+use Rattle.std.proofs.lemmas.List.Filters.{FiltersInPlace-all, FiltersInPlace-more_no, FiltersInPlace-more_set}
 use Rattle.traces.proofs.FamilySteps.{without_kept, free_if}
 use Rattle.traces.proofs.family.drop_containing.Goals.{then-not-is_within, else-not-is_within}
 use Rattle.traces.proofs.family.drop_containing.Goals as goal

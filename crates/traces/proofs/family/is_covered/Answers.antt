@@ -1,4 +1,4 @@
-use Rattle.std.proofs.Common.{◌≡◌, ◌+◌, Bool, true, false, ◌||◌, drop, sym, ap, ◌∙◌, arith}
+use Rattle.std.proofs.Common.{◌+◌, Bool, ◌||◌, drop, sym, ap, ◌∙◌, arith}
 use Rattle.traces.specs.Families.{covered}
 use Rattle.traces.specs.Offered.{bits_of}
 use Rattle.traces.proofs.FamilySteps.{covered_more, covered_none}

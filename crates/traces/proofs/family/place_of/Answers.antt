@@ -1,4 +1,4 @@
-use Rattle.std.proofs.Common.{◌≡◌, ℕ, length, sym, ap, ◌∙◌, subst, arith}
+use Rattle.std.proofs.Common.{◌≡◌, ℕ, length, subst, arith}
 use Rattle.traces.proofs.FamilySteps.{Placed, passed_more, passed_here, passed_all}
 use Rattle.traces.proofs.family.place_of.Goals as goal
 

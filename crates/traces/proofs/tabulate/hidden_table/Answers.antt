@@ -1,4 +1,4 @@
-use Rattle.std.proofs.Common.{◌∙◌, arith}
+use Rattle.std.proofs.Common.{arith}
 use Rattle.traces.specs.Tabled.{filled_more}
 use Rattle.traces.proofs.tabulate.hidden_table.Goals as goal
 

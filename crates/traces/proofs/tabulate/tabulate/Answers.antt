@@ -1,4 +1,4 @@
-use Rattle.std.proofs.Common.{◌≡◌, ◌*◌, ◌<◌, ◌≤◌, vec_items, vec_len, sym, ap, ◌∙◌, arith}
+use Rattle.std.proofs.Common.{◌*◌, vec_items, sym, ap, ◌∙◌, arith}
 use Rattle.traces.specs.Tabled.{tabled_same, visible_within, hidden_within}
 use Rattle.traces.proofs.tabulate.tabulate.Goals as goal
 

@@ -1,4 +1,4 @@
-use Rattle.std.proofs.Common.{sym, ap, ◌∙◌, arith}
+use Rattle.std.proofs.Common.{ap, ◌∙◌, arith}
 use Rattle.traces.specs.Families.{antichain}
 use Rattle.traces.specs.Offered.{bits_of}
 use Rattle.traces.proofs.Antichains.{antichain_none}

@@ -1,4 +1,4 @@
-use Rattle.std.proofs.Common.{◌≡◌, vec_items, sym, ap, ◌∙◌, arith}
+use Rattle.std.proofs.Common.{vec_items, ap, ◌∙◌, arith}
 use Rattle.traces.specs.Families.{antichain}
 use Rattle.traces.specs.Offered.{bits_of}
 use Rattle.traces.proofs.Antichains.{offered_antichain}

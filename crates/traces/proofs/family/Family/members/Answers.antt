@@ -1,4 +1,4 @@
-use Rattle.std.proofs.Common.{◌≡◌, ℕ, List, vec_items, sym, ap, ◌∙◌, subst}
+use Rattle.std.proofs.Common.{ℕ, List, vec_items, sym, ap, subst}
 use Rattle.lts.specs.Sets.{Ascending}
 use Rattle.traces.specs.Offered.{bits_of, Incomparable}
 use Rattle.traces.proofs.Antichains.{antichain_ascending, antichain_incomparable}

@@ -1,4 +1,4 @@
-use Rattle.std.proofs.Common.{◌≡◌, ℕ, Bool, true, false, ◌&&◌, List, vec_items, sym, ap, ◌∙◌, ap₂}
+use Rattle.std.proofs.Common.{◌≡◌, Bool, true, false, ◌&&◌, vec_items, ap, ◌∙◌, ap₂}
 use Rattle.traces.specs.Families.{all_covered}
 use Rattle.traces.specs.Offered.{bits_of}
 use Rattle.traces.proofs.Antichains.{families_equal}
