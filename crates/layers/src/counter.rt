@@ -2,7 +2,7 @@
 ghost use Rattle.std.specs.Prelude.{◌≡◌, ◌≤◌, IfOk, Ok, Err};
 ghost use Rattle.layers.specs.Counter.{counter as counter_of, Counts, raised as raised_to, lowered as lowered_to, made, number as number_of};
 ghost use Rattle.layers.specs.Counters.{counter_lawful};
-ghost use Rattle.std.proofs.Common.{rules, arith};
+ghost use Rattle.std.proofs.Common.{arith};
 
 use lts::sets::StateSet;
 use lts::system::Lts;
@@ -80,7 +80,7 @@ impl Lts for Counter {
 
     ghost lawful = { λ x. counter_lawful x.capacity x.input x.output x.within.1 x.within.2 };
 
-    ghost small = { first_of (Prim.search rules, Prim.grind (arith, Self.row.coded.inj)) };
+    ghost small = { λ x. Prim.omega (arith, x.within.0) };
 
     fn count(&self) -> usize {
         self.capacity + 1
