@@ -1,5 +1,5 @@
 -- The digits of a word, one after another. Assumes nothing.
-use Rattle.std.proofs.Common.{◌≡◌, ℕ, suc, ◌+◌, ◌-◌, ◌*◌, ◌/◌, ◌%◌, ◌^◌, ◌<◌, ◌≤◌, true, List, [], ◌∷◌, ◌++◌, sym, refl, ap, ◌∙◌, append_assoc, append-nil, arith}
+use Rattle.std.proofs.Common.{◌≡◌, ℕ, suc, ◌+◌, ◌-◌, ◌*◌, ◌/◌, ◌%◌, ◌^◌, ◌<◌, ◌≤◌, true, [], ◌∷◌, sym, ap, ◌∙◌, arith}
 use lib.Bits.{bit_and, and_mask}
 use Rattle.std.specs.Fmt.{digit_glyph}
 use Rattle.printing.specs.Numerals.{hex_digits}

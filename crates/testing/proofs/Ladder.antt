@@ -1,5 +1,5 @@
 -- What the distinguishing tests say. Assumes nothing.
-use Rattle.std.proofs.Common.{◌≡◌, ℕ, zero, suc, ◌+◌, ◌*◌, ◌^◌, ◌<◌, ◌≤◌, Bool, true, cond, not, ◌&&◌, ◌||◌, T, eqb, ltb, leb, ◌⊎◌, List, [], ◌∷◌, ◌++◌, length, drop, sym, refl, ap, ◌∙◌, subst, inl, inr, append-nil, suc-le-suc, zero-le, le_refl, le_of_suc-le-suc, not-suc-le-zero, arith, le→leb, eqb→eq, ltb→lt, lt→ltb, leb→le, pow_pos}
+use Rattle.std.proofs.Common.{◌≡◌, ℕ, zero, suc, ◌+◌, ◌*◌, ◌^◌, ◌<◌, ◌≤◌, Bool, true, cond, ◌&&◌, ◌||◌, T, eqb, ltb, leb, ◌⊎◌, List, [], ◌∷◌, ◌++◌, length, drop, sym, refl, ap, ◌∙◌, subst, inl, inr, append-nil, suc-le-suc, zero-le, le_refl, le_of_suc-le-suc, not-suc-le-zero, arith, le→leb, eqb→eq, ltb→lt, lt→ltb, leb→le, pow_pos}
 use native.Mathlib.Decide.{ℕ_discrete}
 use lib.Dec.{eqb_refl}
 use lib.Seq.{drop-length}

@@ -1,4 +1,4 @@
-use Rattle.std.proofs.Common.{◌≡◌, ℕ, List, ◌++◌, string_bytes, codes, ap, ◌∙◌}
+use Rattle.std.proofs.Common.{List, ◌++◌, string_bytes, codes, ap, ◌∙◌}
 use Rattle.cards.specs.Cards.{contents}
 use Rattle.cards.specs.Contents.{written}
 use Rattle.cards.specs.declared.lines.Line.{Line}

@@ -1,4 +1,4 @@
-use Rattle.std.proofs.Common.{◌≡◌, ℕ, ◌+◌, List, ◌++◌, drop, string_bytes, ap, ◌∙◌, arith}
+use Rattle.std.proofs.Common.{ℕ, ◌+◌, List, ◌++◌, drop, string_bytes, ap, ◌∙◌, arith}
 use Rattle.cards.specs.declared.lines.Label.TheVariants.{Action}
 use Rattle.printing.specs.Shown.{lines_text}
 use Rattle.printing.proofs.Appending.{appended, appended_all}

@@ -1,4 +1,4 @@
-use Rattle.std.proofs.Common.{◌≡◌, ℕ, ◌+◌, List, ◌++◌, get_or, drop, string_bytes, codes, ap, ◌∙◌, append_assoc, arith}
+use Rattle.std.proofs.Common.{ℕ, ◌+◌, List, ◌++◌, get_or, drop, string_bytes, codes, ap, ◌∙◌, append_assoc, arith}
 use Rattle.printing.specs.Numerals.{hex_word}
 use Rattle.printing.specs.Shown.{words_text}
 use Rattle.printing.proofs.Appending.{appended, appended_all}

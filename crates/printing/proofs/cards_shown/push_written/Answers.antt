@@ -1,4 +1,4 @@
-use Rattle.std.proofs.Common.{◌≡◌, ℕ, List, ◌++◌, replicate, string_bytes, ap, ◌∙◌}
+use Rattle.std.proofs.Common.{ℕ, List, ◌++◌, replicate, string_bytes, ap, ◌∙◌}
 use Rattle.cards.specs.Cards.{contents}
 use Rattle.cards.specs.Contents.{written}
 use Rattle.printing.specs.Shown.{words_text}

@@ -1,4 +1,4 @@
-use Rattle.std.proofs.Common.{◌≡◌, ℕ, ◌+◌, ◌-◌, List, [], ◌∷◌, ◌++◌, string_bytes, ap, ◌∙◌, arith}
+use Rattle.std.proofs.Common.{ℕ, ◌+◌, ◌-◌, List, [], ◌∷◌, ◌++◌, string_bytes, ap, ◌∙◌, arith}
 use Rattle.printing.specs.Numerals.{hex_digits}
 use Rattle.printing.proofs.Appending.{appended, appended_all}
 use Rattle.printing.proofs.Hex.{digit_next, digits_done}

@@ -1,4 +1,4 @@
-use Rattle.std.proofs.Common.{◌≡◌, ℕ, ◌+◌, ◌-◌, List, ◌++◌, string_bytes, ap, ◌∙◌, arith}
+use Rattle.std.proofs.Common.{ℕ, ◌+◌, ◌-◌, ◌++◌, string_bytes, ap, ◌∙◌, arith}
 use Rattle.cards.specs.declared.lines.Label.TheVariants.{Silent}
 use Rattle.lts.specs.Sets.{members}
 use Rattle.printing.specs.Systems.{targets_text, text_from, silent_text}

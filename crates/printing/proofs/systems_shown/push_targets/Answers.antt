@@ -1,4 +1,4 @@
-use Rattle.std.proofs.Common.{◌≡◌, ℕ, List, ◌++◌, string_bytes, refl, ap, ◌∙◌}
+use Rattle.std.proofs.Common.{ℕ, List, ◌++◌, string_bytes, refl, ap, ◌∙◌}
 use Rattle.lts.specs.Sets.{members}
 use Rattle.lts.specs.declared.members.Members.{Members}
 use Rattle.printing.specs.Systems.{targets_text}

@@ -1,4 +1,4 @@
-use Rattle.std.proofs.Common.{◌≡◌, ℕ, List, ◌++◌, string_bytes, codes, decimal, ◌∙◌, ap₂}
+use Rattle.std.proofs.Common.{ℕ, ◌++◌, string_bytes, codes, decimal, ◌∙◌, ap₂}
 use Rattle.printing.specs.Shown.{newline}
 use Rattle.printing.proofs.Moves.{system_pieces}
 use Rattle.printing.proofs.systems_shown.system_text.Goals as goal

@@ -1,4 +1,4 @@
-use Rattle.std.proofs.Common.{◌≡◌, ℕ, List, ◌++◌, vec_items, string_bytes, ap, ◌∙◌}
+use Rattle.std.proofs.Common.{ℕ, List, ◌++◌, vec_items, string_bytes, ap, ◌∙◌}
 use Rattle.lts.specs.Sets.{members}
 use Rattle.traces.specs.Offered.{bits_of}
 use Rattle.traces.specs.Compiled.{system_of}

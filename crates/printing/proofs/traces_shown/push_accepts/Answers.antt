@@ -1,4 +1,4 @@
-use Rattle.std.proofs.Common.{◌≡◌, ℕ, ◌+◌, List, ◌++◌, drop, string_bytes, codes, ap, ◌∙◌, append_assoc, arith}
+use Rattle.std.proofs.Common.{ℕ, ◌+◌, ◌++◌, drop, string_bytes, codes, ap, ◌∙◌, arith}
 use Rattle.traces.specs.Offered.{bits_of}
 use Rattle.lts.specs.Sets.{members}
 use Rattle.printing.specs.Shown.{newline}

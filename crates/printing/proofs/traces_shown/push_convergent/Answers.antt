@@ -1,4 +1,4 @@
-use Rattle.std.proofs.Common.{◌≡◌, Bool, ◌++◌, string_bytes, sym, ap, ◌∙◌}
+use Rattle.std.proofs.Common.{Bool, ◌++◌, string_bytes, sym, ap, ◌∙◌}
 use Rattle.printing.specs.Trails.{convergent_text}
 use Rattle.printing.proofs.traces_shown.push_convergent.Goals as goal
 

@@ -1,4 +1,4 @@
-use Rattle.std.proofs.Common.{◌≡◌, ℕ, ◌+◌, List, ◌++◌, get_or, drop, string_bytes, codes, decimal, ap, ◌∙◌, arith}
+use Rattle.std.proofs.Common.{ℕ, ◌+◌, List, ◌++◌, get_or, drop, string_bytes, codes, decimal, ap, ◌∙◌, arith}
 use Rattle.printing.specs.Trails.{blanked_text}
 use Rattle.printing.proofs.Appending.{appended, appended_all}
 use Rattle.printing.proofs.Lists.{actions_next, actions_done, numbers_some}
