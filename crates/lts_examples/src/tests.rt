@@ -1,7 +1,7 @@
 // Examples worked out by hand.
-ghost use Rattle.std.specs.Prelude.{◌≡◌, ℕ, ◌+◌, ◌*◌, ◌^◌, ◌<◌, ◌≤◌, ◌&&◌, ltb, if◌then◌else◌, bit_and, nat_lt, slice_index};
+ghost use Rattle.std.specs.Prelude.{◌≡◌, ℕ, ◌+◌, ◌*◌, ◌^◌, ◌<◌, ◌≤◌, ◌&&◌, if◌then◌else◌, bit_and, nat_lt, slice_index};
 ghost use Rattle.std.proofs.lemmas.Nat.{and_le_r};
-ghost use Rattle.std.proofs.Common.{arith, pow_pos, rules};
+ghost use Rattle.std.proofs.Common.{arith, pow_pos};
 ghost use Rattle.std.proofs.lemmas.Bool.{cond_both, cond-false, and_left, and_right, le-ltb};
 
 use lts::sets::StateSet;
@@ -23,7 +23,7 @@ struct Sample {
 }
 
 impl Lts for Sample {
-    ghost meaning = { λ x. record { count = x.count; start = 0; visible = λ p a. (if ltb p x.count && nat_lt a 3 then bit_and (slice_index x.visible (3 * p + a)) x.states else 0); hidden = λ p. (if ltb p x.count then bit_and (slice_index x.hidden p) x.states else 0) } };
+    ghost meaning = { λ x. record { count = x.count; start = 0; visible = λ p a. (if nat_lt p x.count && nat_lt a 3 then bit_and (slice_index x.visible (3 * p + a)) x.states else 0); hidden = λ p. (if nat_lt p x.count then bit_and (slice_index x.hidden p) x.states else 0) } };
 
     ghost lawful = { λ x.
         record {
@@ -36,7 +36,7 @@ impl Lts for Sample {
           no_action = λ p a b. cond-false _ _ _ (and_right (nat_lt p x.count) (nat_lt a 3) (le-ltb a 3 (omega arith)));
         } };
 
-    ghost small = { first_of (Prim.search rules, Prim.grind (arith, Self.row.coded.inj)) };
+    ghost small = { λ x. x.few };
 
     fn count(&self) -> usize {
         self.count

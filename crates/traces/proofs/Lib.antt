@@ -4,6 +4,7 @@ pub mod TraceStates
 pub mod Antichains
 pub mod Marks
 pub mod Searches
+pub mod Tabled
 pub mod UnionSteps
 pub mod Derivations
 pub mod FamilySteps

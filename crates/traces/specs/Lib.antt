@@ -10,4 +10,3 @@ pub mod Compiled
 pub mod Offered
 pub mod Shown
 pub mod TableLaws
-pub mod Tabled

@@ -2,7 +2,6 @@
 ghost use Rattle.std.specs.Prelude.{◌≡◌, ℕ, IfOk, MatchResult};
 ghost use Rattle.traces.specs.Compiled.{system_of};
 ghost use Rattle.traces.specs.TableLaws.{table_lawful};
-ghost use Rattle.std.proofs.Common.{rules, arith};
 
 use crate::compiled::Compiled;
 use crate::derive::{after_table, closure_table, divergent_states, offer_table, stable_states};

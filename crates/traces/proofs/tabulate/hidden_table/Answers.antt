@@ -1,5 +1,5 @@
 use Rattle.std.proofs.Common.{arith}
-use Rattle.traces.specs.Tabled.{filled_more}
+use Rattle.traces.proofs.Tabled.{filled_more}
 use Rattle.traces.proofs.tabulate.hidden_table.Goals as goal
 
 pub loop-state-preserved : goal.loop-state-preserved

@@ -1,5 +1,5 @@
 use Rattle.std.proofs.Common.{◌*◌, vec_items, sym, ap, ◌∙◌, arith}
-use Rattle.traces.specs.Tabled.{tabled_same, visible_within, hidden_within}
+use Rattle.traces.proofs.Tabled.{tabled_same, visible_within, hidden_within}
 use Rattle.traces.proofs.tabulate.tabulate.Goals as goal
 
 pub invariant_of-result : goal.invariant_of-result

@@ -1,6 +1,6 @@
 use Rattle.std.proofs.Common.{arith}
 use Rattle.traces.specs.Tables.{visible_at}
-use Rattle.traces.specs.Tabled.{filled_more}
+use Rattle.traces.proofs.Tabled.{filled_more}
 use Rattle.traces.proofs.tabulate.visible_table.Goals as goal
 
 pub loop-place-preserved : goal.loop-place-preserved
