@@ -19,7 +19,7 @@ abbrev pub label_text : Label → List ℕ
 label_text (Action a) = decimal a
 label_text Silent = codes "h"
 
--- a line, as from_label_to
+-- a line, as from-label-to
 abbrev pub line_text : Line → List ℕ
 line_text l = decimal l.from ++ (codes "-" ++ (label_text l.label ++ (codes "-" ++ (decimal l.to ++ newline))))
 

@@ -11,7 +11,7 @@ use cards::written_card::WrittenCard;
 use lts::system::Lts;
 use std::alloc::{AllocError, Global};
 
-// A line, as from_label_to.
+// A line, as from-label-to.
 fn line_text(heap: Global, line: Line) -> Result<String, AllocError>
     ensures { IfOk result (λ s. string_bytes s ≡ line_text line) }
 {

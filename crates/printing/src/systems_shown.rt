@@ -9,7 +9,7 @@ use lts::members::Members;
 use lts::system::Lts;
 use std::alloc::{AllocError, Global};
 
-// A transition, as from_label_to.
+// A transition, as from-label-to.
 fn transition_text(heap: Global, from: usize, label: Label, to: usize) -> Result<String, AllocError>
     ensures { IfOk result (λ s. string_bytes s ≡ line_text (record { from = from; label = label; to = to })) }
 {
