@@ -1,14 +1,22 @@
 -- Hiding by membership, and that it keeps the laws of systems. Assumes nothing.
-use Rattle.std.specs.Prelude.{ℕ, zero, suc, ◌<◌, cond, ◌⊎◌, refl}
-use Rattle.std.proofs.Common.{subst, not-suc-le-zero, arith}
+use Rattle.std.specs.Prelude.{◌≡◌, ℕ, zero, suc, ◌+◌, ◌<◌, cond, ◌⊎◌, refl}
+use Rattle.std.proofs.Common.{subst, add-one, not-suc-le-zero, arith}
 use Rattle.std.proofs.Math.Logic.{inl, inr}
 use Rattle.std.proofs.lemmas.Bool.{cases_eq}
-use Rattle.lts.specs.Sets.{In, has}
+use Rattle.lts.specs.Sets.{In, has, union}
 use Rattle.lts.specs.System.{System, Lawful}
 use Rattle.lts.proofs.Membership.{in_or, or_left, or_right}
 use Rattle.layers.specs.Transitions.{visible_within, hidden_within, lawful_within}
 use Rattle.layers.specs.Deciding.{if_members, unless_members, decides_has}
 use Rattle.layers.specs.Hiding.{silenced, hide, Hides}
+
+pub silenced_none : (h : ℕ) (m : System) (p : ℕ) → silenced h m p 0 ≡ m.hidden p
+unfolding silenced
+silenced_none h m p = refl
+
+pub silenced_more : (h : ℕ) (m : System) (p n : ℕ) → silenced h m p (n + 1) ≡ union (silenced h m p n) (cond (has n h) (m.visible p n) 0)
+unfolding silenced
+silenced_more h m p n = rw (add-one n)
 
 module _ (h : ℕ) (m : System) (p q : ℕ) where
   -- q is reached from p by an action of h
