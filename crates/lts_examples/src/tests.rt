@@ -11,7 +11,7 @@ use std::test::Fail;
 use traces::compile::compile_lent;
 use traces::family::Family;
 
-// A system with actions 0 to 2; where action a leads from state p stands at place 3 * p + a.
+// A system with actions 0 to 2; where action a leads from state p stands at place 3 * p + a. Arrays of fixed length: an example is written out whole, and needs no heap.
 #[derive(Drop)]
 struct Sample {
     count: usize,

@@ -88,7 +88,7 @@ fn most_states(rt: HostRuntime) -> Result<(), Fail> {
     Ok(())
 }
 
-// Actions 0 to 3 lead from each state p to state 63 - p.
+// Actions 0 to 3 lead from each state p to state 63 - p. Two plain loops: to make the words by their place would take it apart again.
 fn most_lines_words() -> [u32; 258] {
     let mut words = [0x1100_0040; 258];
     for state in 0..64usize {

@@ -1,4 +1,4 @@
-// Sets of states and of actions.
+// Sets of states and of actions, the two instances of one generic set: each has its test.
 use lts::members::Members;
 use lts::sets::{ActionSet, StateSet};
 use std::process::Abort;
