@@ -22,7 +22,7 @@ impl<W: Word> Set<W> {
         ensures { W.number result.bits ≡ 0 }
     {
         Set {
-            bits: W::narrowed(0),
+            bits: W::truncated(0),
         }
     }
 
@@ -65,7 +65,7 @@ impl<W: Word> Set<W> {
         ensures { W.number result.bits ≡ union_of (W.number self.bits) (W.number other.bits) }
     {
         Set {
-            bits: W::narrowed(self.bits.widened() | other.bits.widened()),
+            bits: W::truncated(self.bits.widened() | other.bits.widened()),
         }
     }
 
@@ -73,7 +73,7 @@ impl<W: Word> Set<W> {
         ensures { W.number result.bits ≡ intersection_of (W.number self.bits) (W.number other.bits) }
     {
         Set {
-            bits: W::narrowed(self.bits.widened() & other.bits.widened()),
+            bits: W::truncated(self.bits.widened() & other.bits.widened()),
         }
     }
 
@@ -82,7 +82,7 @@ impl<W: Word> Set<W> {
         ensures { W.number result.bits ≡ complement_of W.WIDTH (W.number self.bits) }
     {
         Set {
-            bits: W::narrowed(W::ALL - self.bits.widened()),
+            bits: W::truncated(W::ALL - self.bits.widened()),
         }
     }
 
@@ -104,7 +104,7 @@ impl<W: Word> Set<W> {
             return false;
         }
         let after = before | 1 << number;
-        self.bits = W::narrowed(after);
+        self.bits = W::truncated(after);
         after != before
     }
 

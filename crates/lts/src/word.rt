@@ -1,5 +1,5 @@
 // Machine words.
-ghost use Rattle.std.specs.Prelude.{◌≡◌, ℕ, ◌+◌, ◌^◌, ◌<◌, ◌≤◌};
+ghost use Rattle.std.specs.Prelude.{◌≡◌, ℕ, ◌+◌, ◌%◌, ◌^◌, ◌<◌, ◌≤◌};
 ghost use Rattle.std.proofs.Common.{rules};
 
 // A machine word of at most 64 bits. A set is kept in one.
@@ -19,9 +19,9 @@ pub trait Word: Copy {
         ensures value { result ≡ number self }
         ensures below { result < 2 ^ WIDTH };
 
-    fn narrowed(bits: u64) -> Self
-        requires { bits < 2 ^ WIDTH }
-        ensures { number result ≡ bits };
+    // The word with these bits; what does not fit is left out.
+    fn truncated(bits: u64) -> Self
+        ensures { number result ≡ bits % 2 ^ WIDTH };
 
     ghost fits: { WIDTH ≤ 64 };
 
@@ -47,7 +47,7 @@ impl Word for u64 {
         self
     }
 
-    fn narrowed(bits: u64) -> u64 {
+    fn truncated(bits: u64) -> u64 {
         bits
     }
 }
@@ -71,7 +71,7 @@ impl Word for u32 {
         u64::from(self)
     }
 
-    fn narrowed(bits: u64) -> u32 {
-        bits as u32
+    fn truncated(bits: u64) -> u32 {
+        (bits & Self::ALL) as u32
     }
 }
