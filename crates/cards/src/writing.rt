@@ -16,7 +16,7 @@ fn write_lines(lines: &[Line], out: &mut [u32], at: usize)
 {
     let mut place = at;
     for line in lines {
-        out[place] = line.word();
+        out[place] = u32::from(*line);
         place += 1;
     }
 }
@@ -49,7 +49,7 @@ impl WrittenCard {
             + self.states as u32;
         write_lines(&self.lines, out, 1);
         write_passing(passing, out, 1 + lines);
-        out[end] = Word::End.encode();
+        out[end] = u32::from(Word::End);
         Ok(end + 1)
     }
 }

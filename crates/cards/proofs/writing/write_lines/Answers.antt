@@ -16,10 +16,10 @@ loop-line-preserved c =
     let i = c.loop-line.line-index in
     let h : i < length ls = omega arith in
     let n : length (map line_word (take i ls)) ≡ i = length-map (take i ls) line_word ∙ length-take-le i ls (omega arith) in
-    let m : map line_word (take (i + 1) ls) ≡ map line_word (take i ls) ++ (c.word.result ∷ []) =
-    ap (map line_word) (take_more ls i no_line h) ∙ map-append line_word (take i ls) (get_or ls i no_line ∷ []) ∙ ap (λ (w : ℕ). map line_word (take i ls) ++ (w ∷ [])) (sym c.word.ensures) in (
+    let m : map line_word (take (i + 1) ls) ≡ map line_word (take i ls) ++ (c.from.result ∷ []) =
+    ap (map line_word) (take_more ls i no_line h) ∙ map-append line_word (take i ls) (get_or ls i no_line ∷ []) ∙ ap (λ (w : ℕ). map line_word (take i ls) ++ (w ∷ [])) (sym c.from.ensures) in (
       omega (arith, c.loop-line.invariant.0),
-      laid_step c.args.at c.loop-line.place (map line_word (take i ls)) (map line_word (take (i + 1) ls)) c.args.out.now c.loop-line.out c.word.result c.loop-line.invariant.1
+      laid_step c.args.at c.loop-line.place (map line_word (take i ls)) (map line_word (take (i + 1) ls)) c.args.out.now c.loop-line.out c.from.result c.loop-line.invariant.1
           (omega (arith, c.loop-line.invariant.0)) (omega (arith, c.requires, c.loop-line.invariant.0)) m,
     )
 

@@ -33,6 +33,6 @@ returns c =
     (length-map card.lines.items line_word ∙ n) (length-map (members c.args.passing.bits) passing_word ∙ sym k) (omega arith)
     (ap (set c.args.out.now 0) same) (c.write_lines.ensures ∙ ap (λ (ls : List Line). laid 1 (map line_word ls) (set c.args.out.now 0 put)) c.deref.ensures.value) c.write_passing.ensures in
     let r =
-    long (written s) c.args.out.now (set c.write_passing.new.out (1 + c.len-lines.result + c.len.result) c.encode.result) (1 + c.len-lines.result + c.len.result + 1) (omega arith) (omega arith)
-    (ap (set c.write_passing.new.out (1 + c.len-lines.result + c.len.result)) c.encode.ensures ∙ whole) in
+    long (written s) c.args.out.now (set c.write_passing.new.out (1 + c.len-lines.result + c.len.result) c.from.result) (1 + c.len-lines.result + c.len.result + 1) (omega arith) (omega arith)
+    (ap (set c.write_passing.new.out (1 + c.len-lines.result + c.len.result)) c.from.ensures ∙ whole) in
     record { told = r.0; after = r.1 }
