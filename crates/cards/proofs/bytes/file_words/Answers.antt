@@ -1,4 +1,4 @@
-use Rattle.std.proofs.Common.{◌≡◌, length, sym, ap, ◌∙◌, arith, eqb-true, length-take}
+use Rattle.std.proofs.Common.{length, sym, ap, ◌∙◌, arith, eqb-true, length-take}
 use Rattle.std.proofs.lemmas.Bool.{eqb-false}
 use Rattle.std.proofs.lemmas.Result.{err_from_is_err_and}
 use Rattle.cards.proofs.Files.{chunked, file_words_length, faulty, left_over, none_left}

@@ -1,8 +1,8 @@
-use Rattle.std.proofs.Common.{ℕ, ◌/◌, ◌%◌, List, map, length, Ok, sym, refl, ap, ◌∙◌, ap₂, arith}
+use Rattle.std.proofs.Common.{ℕ, List, map, length, Ok, sym, refl, ap, ◌∙◌, ap₂, subst, arith}
 use Rattle.std.proofs.lemmas.Result.{err_from_is_err_and}
 use Rattle.cards.specs.declared.lines.Line.{Line}
 use Rattle.cards.specs.Contents.{held, read_words}
-use Rattle.cards.specs.Lines.{lines_fit, rising, targets}
+use Rattle.cards.specs.Lines.{lines_fit, rising, Tabled}
 use Rattle.cards.specs.Words.{line_word}
 use Rattle.cards.proofs.RoundTrip.{taken_sized, taken_counted, taken_fit, taken_rising}
 use Rattle.cards.proofs.Tabled.{lines_fit_wider}
@@ -20,16 +20,12 @@ collect-passing-requires c =
     let e = sym c.in_ok-head.ensures in
     omega (arith, taken_counted c.args.role c.args.words.now c.in_ok-head.head e, (taken_sized c.args.role c.args.words.now c.in_ok-head.head e).few, c.args.self.now.few.1)
 
-pub fill_table-requires : goal.fill_table-requires
-fill_table-requires c =
+pub fill-requires : goal.fill-requires
+fill-requires c =
     let e = sym c.in_ok-head.ensures in
     let h = c.in_ok-head.head in
-    record {
-      wide = c.args.self.now.wide;
-      sound =
-          ap (lines_fit 64) (c.deref.ensures.value ∙ c.collect-passing.ensures.lines)
-          ∙ lines_fit_wider h.states 64 _ (taken_sized c.args.role c.args.words.now h e).most (taken_fit c.args.role c.args.words.now h e);
-    }
+    ap (lines_fit 64) (c.deref.ensures.value ∙ c.collect-passing.ensures.lines)
+    ∙ lines_fit_wider h.states 64 _ (taken_sized c.args.role c.args.words.now h e).most (taken_fit c.args.role c.args.words.now h e)
 
 pub invariant_of-self : goal.invariant_of-self
 invariant_of-self c =
@@ -46,8 +42,7 @@ invariant_of-self c =
         omega (arith, c.collect-passing.new.lines.ok.0, ap length l, n, s.few),
         omega (arith, c.collect-passing.ensures.room, c.args.self.now.few.1),
       );
-      wide = c.fill_table.ensures.len ∙ c.args.self.now.wide;
-      tabled = λ i. c.fill_table.ensures.tabled i ∙ ap (λ (ls : List Line). targets ls (i / 33) (i % 33)) c.deref.ensures.value;
+      tabled = subst (Tabled c.fill.new.self.rows.items) c.deref.ensures.value c.fill.ensures;
     }
 
 pub returns : goal.returns
