@@ -4,7 +4,7 @@ use Rattle.cards.specs.declared.lines.Role.TheVariants.{Card}
 use Rattle.cards.specs.Cards.{contents, contents_with}
 use Rattle.cards.specs.Contents.{written, wrote, buffer}
 use Rattle.lts.proofs.Lowest.{members_none}
-use Rattle.cards.proofs.Laid.{written_length}
+use Rattle.cards.proofs.Written.{written_length}
 use Rattle.cards.proofs.Holding.{held_valid}
 use Rattle.cards.proofs.RoundTrip.{read_written}
 use Rattle.cards.proofs.written_card.WrittenCard.write.Goals as goal

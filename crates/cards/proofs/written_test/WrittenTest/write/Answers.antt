@@ -2,7 +2,7 @@ use Rattle.std.proofs.Common.{◌≡◌, ℕ, ◌^◌, ◌≤◌, true, false, a
 use Rattle.cards.specs.declared.lines.Role.TheVariants.{Test}
 use Rattle.cards.specs.Tests.{test_contents}
 use Rattle.lts.proofs.Lowest.{members_few}
-use Rattle.cards.proofs.Laid.{written_length}
+use Rattle.cards.proofs.Written.{written_length}
 use Rattle.cards.proofs.Holding.{held_valid}
 use Rattle.cards.proofs.RoundTrip.{read_written}
 use Rattle.cards.proofs.written_test.WrittenTest.write.Goals as goal
