@@ -9,7 +9,8 @@ use Rattle.cards.specs.declared.faults.Reason.TheVariants.{Trailing}
 use Rattle.cards.specs.declared.faults.WordFault.{WordFault}
 use Rattle.cards.specs.declared.lines.Head.{Head}
 use Rattle.cards.specs.declared.lines.Role.{Role}
-use Rattle.cards.specs.Bytes.{looked, word_at, word_count, file_words, whole, unless_left, in_card, read_bytes, told_of}
+use Rattle.cards.specs.Bytes.{looked, word_at, word_count, file_words, whole, unless_left, in_card, read_bytes}
+use Rattle.cards.specs.Cards.{told}
 use Rattle.cards.specs.Contents.{Contents, held, read_words}
 use Rattle.cards.specs.Reading.{check}
 
@@ -71,8 +72,8 @@ module _ (role : Role) (bs ws : List ℕ) (e : ws ≡ file_words bs) (f : read_b
   unfolding read_words
   known r c = f ∙ ap (λ (x : Result Head WordFault). in_card (held (file_words bs) x)) (sym (c ∙ ap (check role) e))
 
-  pub checked_good : (h : Head) → Ok h ≡ check role ws → Ok tt ≡ told_of (read_bytes role bs)
-  checked_good h c = sym (ap told_of (known (Ok h) c))
+  pub checked_good : (h : Head) → Ok h ≡ check role ws → Ok tt ≡ told (read_bytes role bs)
+  checked_good h c = sym (ap told (known (Ok h) c))
 
-  pub checked_bad : (g : WordFault) → Err g ≡ check role ws → Err (record { word = g }) ≡ told_of (read_bytes role bs)
-  checked_bad g c = sym (ap told_of (known (Err g) c))
+  pub checked_bad : (g : WordFault) → Err g ≡ check role ws → Err (record { word = g }) ≡ told (read_bytes role bs)
+  checked_bad g c = sym (ap told (known (Err g) c))

@@ -1,28 +1,29 @@
 // Cards and tests as files of bytes, words with their low byte first.
 ghost use Rattle.std.specs.Prelude.{◌≡◌, ℕ, ◌≤◌, map, length, Err, MatchResult};
 ghost use Rattle.std.specs.Int.{w32, from_le_bytes};
-ghost use Rattle.cards.specs.Bytes.{file_words as words_in, in_card, read_bytes, told_of, file_after};
-ghost use Rattle.cards.specs.Cards.{contents};
+ghost use Rattle.cards.specs.Bytes.{file_words as words_in, in_card, read_bytes};
+ghost use Rattle.cards.specs.Cards.{contents, told, after};
 ghost use Rattle.cards.specs.Tests.{test_contents};
 ghost use Rattle.cards.specs.declared.lines.Role.TheVariants.{Card, Test as TestRole};
 ghost use Rattle.cards.specs.Contents.{read_words};
 
-use arrayvec::ArrayVec;
 use crate::faults::*;
 use crate::lines::Role;
 use crate::reading::check;
+use crate::writing::MOST_WORDS;
 use crate::written_card::WrittenCard;
 use crate::written_test::WrittenTest;
+use arrayvec::ArrayVec;
 
-// The most words of a file that are looked at: one more than the most that a test can have.
-const MOST: usize = 323;
+// The most words of a file that are looked at: one more than there can be.
+const LOOKED_AT: usize = MOST_WORDS + 1;
 
 // Words with their low byte first.
-fn words_of(chunks: &[[u8; 4]]) -> ArrayVec<u32, MOST>
+fn words_of(chunks: &[[u8; 4]]) -> ArrayVec<u32, LOOKED_AT>
     requires { length chunks.now ≤ 323 }
     ensures { result.items ≡ map (λ c. from_le_bytes w32 c) chunks.now }
 {
-    let mut words = ArrayVec::<u32, MOST>::new();
+    let mut words = ArrayVec::<u32, LOOKED_AT>::new();
     for chunk in chunks {
         words.push(u32::from_le_bytes(*chunk));
     }
@@ -30,10 +31,10 @@ fn words_of(chunks: &[[u8; 4]]) -> ArrayVec<u32, MOST>
 }
 
 // The words of a file, unless bytes are left over: then the first fault is told.
-fn file_words(role: Role, bytes: &[u8]) -> Result<ArrayVec<u32, MOST>, CardFault>
+fn file_words(role: Role, bytes: &[u8]) -> Result<ArrayVec<u32, LOOKED_AT>, CardFault>
     ensures { MatchResult result (λ ws. (ws.items ≡ words_in bytes.now) × (read_bytes role bytes.now ≡ in_card (read_words role (words_in bytes.now)))) (λ f. read_bytes role bytes.now ≡ Err f) }
 {
-    let looked = &bytes[..bytes.len().min(4 * MOST)];
+    let looked = &bytes[..bytes.len().min(4 * LOOKED_AT)];
     let (chunks, left) = looked.as_chunks::<4>();
     let words = words_of(chunks);
     if left.is_empty() {
@@ -50,7 +51,7 @@ fn file_words(role: Role, bytes: &[u8]) -> Result<ArrayVec<u32, MOST>, CardFault
 
 // The first fault of a file, if there is one.
 pub(crate) fn check_bytes(role: Role, bytes: &[u8]) -> Result<(), CardFault>
-    ensures { result ≡ told_of (read_bytes role bytes.now) }
+    ensures { result ≡ told (read_bytes role bytes.now) }
 {
     let words = file_words(role, bytes)?;
     check(role, words.as_slice())?;
@@ -60,8 +61,8 @@ pub(crate) fn check_bytes(role: Role, bytes: &[u8]) -> Result<(), CardFault>
 impl WrittenCard {
     // Reads a file of a card. A refusal leaves the card as it stood.
     pub fn read_bytes(&mut self, bytes: &[u8]) -> Result<(), CardFault>
-        ensures told { result ≡ told_of (read_bytes Card bytes.now) }
-        ensures after { contents self.new ≡ file_after (contents self.old) (read_bytes Card bytes.now) }
+        ensures told { result ≡ told (read_bytes Card bytes.now) }
+        ensures after { contents self.new ≡ after (contents self.old) (read_bytes Card bytes.now) }
     {
         let words = file_words(Role::Card, bytes)?;
         self.read(words.as_slice())?;
@@ -72,8 +73,8 @@ impl WrittenCard {
 impl WrittenTest {
     // Reads a file of a test. A refusal leaves the test as it stood.
     pub fn read_bytes(&mut self, bytes: &[u8]) -> Result<(), CardFault>
-        ensures told { result ≡ told_of (read_bytes TestRole bytes.now) }
-        ensures after { test_contents self.new ≡ file_after (test_contents self.old) (read_bytes TestRole bytes.now) }
+        ensures told { result ≡ told (read_bytes TestRole bytes.now) }
+        ensures after { test_contents self.new ≡ after (test_contents self.old) (read_bytes TestRole bytes.now) }
     {
         let words = file_words(Role::Test, bytes)?;
         self.read(words.as_slice())?;

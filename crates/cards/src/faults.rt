@@ -42,7 +42,7 @@ pub struct CardFault {
     pub word: WordFault,
 }
 
-// A refused left file of two.
+// A refused left file of two. One type for both sides would be no plainer: it would need a marker for the side, on which `?` chooses.
 #[derive(Clone, Copy, PartialEq, Eq, Debug)]
 pub struct LeftFault {
     pub card: CardFault,
@@ -65,6 +65,7 @@ pub enum SideFault {
 #[derive(Clone, Copy, PartialEq, Eq, Debug)]
 pub struct ShortBuffer;
 
+// By hand and not derived, since a contract names the error that a `?` makes: so each has a `from_gives`.
 impl From<WordFault> for CardFault {
     ghost from_gives = { λ e f. f ≡ record { word = e } };
 

@@ -1,8 +1,8 @@
 // Two files of cards, a left and a right one.
 ghost use Rattle.std.specs.Prelude.{◌≡◌};
 ghost use Rattle.cards.specs.declared.lines.Role.TheVariants.{Card};
-ghost use Rattle.cards.specs.Bytes.{read_sides, told_of, left_after, right_after};
-ghost use Rattle.cards.specs.Cards.{contents};
+ghost use Rattle.cards.specs.Bytes.{read_sides, left_after, right_after};
+ghost use Rattle.cards.specs.Cards.{contents, told};
 
 use crate::bytes::check_bytes;
 use crate::faults::*;
@@ -17,7 +17,7 @@ pub fn read_sides(
     left_bytes: &[u8],
     right_bytes: &[u8],
 ) -> Result<(), SideFault>
-    ensures told { result ≡ told_of (read_sides left_bytes.now right_bytes.now) }
+    ensures told { result ≡ told (read_sides left_bytes.now right_bytes.now) }
     ensures left { contents left.new ≡ left_after (contents left.old) (read_sides left_bytes.now right_bytes.now) }
     ensures right { contents right.new ≡ right_after (contents right.old) (read_sides left_bytes.now right_bytes.now) }
 {

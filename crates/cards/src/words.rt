@@ -37,6 +37,7 @@ impl From<Word> for u32 {
 }
 
 // What a word would be by its kind.
+// The kinds stay numbers: an enum of them would be no plainer, since it would need this match and one more from number to kind.
 fn by_kind(role: Role, word: u32) -> Option<Word>
     ensures { result ≡ by_kind role word }
 {

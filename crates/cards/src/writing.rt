@@ -3,21 +3,21 @@ ghost use Rattle.std.specs.Prelude.{◌≡◌};
 ghost use Rattle.cards.specs.Cards.{contents_with};
 ghost use Rattle.cards.specs.Contents.{wrote, buffer, written};
 
-use arrayvec::ArrayVec;
 use crate::faults::ShortBuffer;
 use crate::lines::*;
 use crate::written_card::WrittenCard;
+use arrayvec::ArrayVec;
 use lts::sets::StateSet;
 
 // The most words that there can be: a head, 256 lines, 64 passing states and an end.
-pub(crate) const MOST: usize = 322;
+pub(crate) const MOST_WORDS: usize = 322;
 
 impl WrittenCard {
     // The words of the card with these passing states.
-    fn words(&self, passing: StateSet) -> ArrayVec<u32, MOST>
+    fn words(&self, passing: StateSet) -> ArrayVec<u32, MOST_WORDS>
         ensures { result.items ≡ written (contents_with passing.bits self.now) }
     {
-        let mut words = ArrayVec::<u32, MOST>::new();
+        let mut words = ArrayVec::<u32, MOST_WORDS>::new();
         words.push(
             0x1000_0000
                 + self.lines.len() as u32 * 0x1_0000
