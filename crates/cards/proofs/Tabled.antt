@@ -12,6 +12,7 @@ use Rattle.lts.proofs.Membership.{or_assoc}
 use Rattle.cards.specs.declared.lines.Label.TheVariants.{Action}
 use Rattle.cards.specs.declared.lines.Line.{Line}
 use Rattle.cards.specs.Meant.{both, Fits, fits}
+use Rattle.cards.proofs.Passing.{grown}
 use Rattle.cards.specs.Lines.{column, hit, targets, line_fits, lines_fit, no_states, set_at, Tabled}
 
 pub line_at : (n : ℕ) (ls : List Line) (i : ℕ) (d : Line) → lines_fit n ls ≡ true → i < length ls → line_fits n (slice_index_or ls i d) ≡ true
@@ -41,9 +42,6 @@ hit_other_column l p k d =
       | inl e ↦ rw (eq-eqb l.from p e, ne_eqb (column l.label) k (λ f. d (sym f)))
       | inr e ↦ rw (ne_eqb l.from p e)
     ]
-
-grown : (to old : ℕ) → to < 64 → inserted 64 to old ≡ bit_or old (2 ^ to)
-grown to old h = rw (lt-ltb to 64 h)
 
 -- one line more: the set in its row and column gains the state that it leads to
 module _ (rows : List (List StateSet)) (row : List StateSet) (cell : StateSet) (l : Line) (f : Fits 64 l) (old : get_or rows l.from [] ≡ row) (room : l.from < length rows)

@@ -40,6 +40,7 @@ impl WrittenCard {
     }
 
     // Fills the card from the words of a card or a test, and returns the passing states that they name.
+    #[tactic(auto, unfolding(crate::specs::Contents::read_words))]
     pub(crate) fn read_as(&mut self, role: Role, words: &[u32]) -> Result<StateSet, WordFault>
         ensures taken { MatchResult result (λ p. read_words role words.now ≡ Ok (contents_with p.bits self.new)) (λ f. read_words role words.now ≡ Err f) }
         ensures kept { OnErr result (self.new ≡ self.old) }

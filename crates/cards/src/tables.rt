@@ -35,6 +35,7 @@ impl Table {
     }
 
     // Makes it the table of these lines.
+    #[tactic(auto, using(crate::proofs::Tabled::fits_at))]
     pub(crate) fn fill(&mut self, lines: &[Line])
         requires { lines_fit 64 lines.now ≡ true }
         ensures { Tabled self.new.rows.items lines.now }

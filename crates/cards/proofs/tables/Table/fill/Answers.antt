@@ -8,21 +8,6 @@ loop-line-init c =
     let e = c.fill.ensures.items (λ y e. same_row _ y e.whole) in
     record { tabled = tabled_none _ 33 c.empty.result _ e c.empty.ensures; wide = rows_filled _ 33 c.empty.result _ e }
 
-pub index_mut-row-requires : goal.index_mut-row-requires
-index_mut-row-requires c =
-    let f = fits_at 64 c.args.lines.now c.loop-line.line-index no_line c.requires (omega arith) in
-    omega (arith, f.from_below, c.loop-line.self.wide, c.from.ensures)
-
-pub offset_bounds-row-column : goal.offset_bounds-row-column
-offset_bounds-row-column c =
-    let f = fits_at 64 c.args.lines.now c.loop-line.line-index no_line c.requires (omega arith) in
-    omega (arith, f.column_below, c.column.ensures)
-
-pub bounds-row-column : goal.bounds-row-column
-bounds-row-column c =
-    let f = fits_at 64 c.args.lines.now c.loop-line.line-index no_line c.requires (omega arith) in
-    omega (arith, f.column_below, c.column.ensures)
-
 pub loop-line-preserved : goal.loop-line-preserved
 loop-line-preserved c =
     let rows = c.loop-line.self.rows.items in
