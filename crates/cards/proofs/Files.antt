@@ -1,16 +1,47 @@
 -- What a file of bytes holds, by its words. Assumes nothing.
-use Rattle.std.proofs.Common.{◌≡◌, ℕ, ◌-◌, ◌%◌, ◌<◌, min, Bool, true, false, List, length, take, Ok, Err, Result, sym, refl, ap, ◌∙◌, arith, length-take, eq-eqb, ne_eqb}
+use Rattle.std.proofs.Common.{◌≡◌, ℕ, zero, suc, ◌+◌, ◌*◌, ◌/◌, ◌%◌, ◌<◌, ◌≤◌, min, Bool, true, false, List, ◌∷◌, map, length, take, drop, slice_index, Ok, Err, Result, sym, refl, ap, ap₂, ◌∙◌, add-zero, arith, length-take, eq-eqb, ne_eqb}
+use Rattle.std.specs.Int.{w32, from_le_bytes}
+use Rattle.std.specs.List.{range_with_len}
+use Rattle.std.specs.Simd.{first_chunks}
+use Rattle.std.proofs.lemmas.List.{get_or-take, get_or-drop, drop-drop, length-map}
+use Rattle.std.proofs.lemmas.List.FromFn.{length-range_with_len}
 use Rattle.cards.specs.declared.faults.Reason.TheVariants.{Trailing}
 use Rattle.cards.specs.declared.faults.WordFault.{WordFault}
 use Rattle.cards.specs.declared.lines.Head.{Head}
 use Rattle.cards.specs.declared.lines.Role.{Role}
-use Rattle.cards.specs.Bytes.{looked, word_count, file_words, whole, unless_left, in_card, read_bytes, told_of}
+use Rattle.cards.specs.Bytes.{looked, word_at, word_count, file_words, whole, unless_left, in_card, read_bytes}
+use Rattle.cards.specs.Cards.{told}
 use Rattle.cards.specs.Contents.{Contents, held, read_words}
 use Rattle.cards.specs.Reading.{check}
 
--- the part of a table that a slice from 0 on is
-pub front : (n : ℕ) (ws vs : List ℕ) → take n ws ≡ vs → take (n - 0) ws ≡ vs
-front n ws vs e = let z : n - 0 ≡ n = omega arith in ap (λ (k : ℕ). take k ws) z ∙ e
+-- four bytes on from a place, as a word
+one_word : (m k : ℕ) (bs : List ℕ) → (k + 1) * 4 ≤ m → from_le_bytes w32 (take 4 (drop (k * 4) (take m bs))) ≡ word_at bs k
+one_word m k bs h =
+    let byte : (i : ℕ) → i < 4 → slice_index (take 4 (drop (k * 4) (take m bs))) i ≡ slice_index bs (k * 4 + i) =
+    λ i l. get_or-take 4 (drop (k * 4) (take m bs)) i 0 l ∙ get_or-drop (k * 4) (take m bs) i 0 ∙ get_or-take m bs (k * 4 + i) 0 (omega arith) in
+    let b0 : slice_index (take 4 (drop (k * 4) (take m bs))) 0 ≡ slice_index bs (k * 4) = byte 0 (omega arith) ∙ ap (λ (j : ℕ). slice_index bs j) (add-zero (k * 4)) in
+    rw (b0, byte 1 (omega arith), byte 2 (omega arith), byte 3 (omega arith))
+
+words_on : (m n k : ℕ) (bs : List ℕ) → (k + n) * 4 ≤ m → map (λ c. from_le_bytes w32 c) (first_chunks 4 n (drop (k * 4) (take m bs))) ≡ map (word_at bs) (range_with_len k n)
+words_on m zero k bs h = refl
+words_on m (suc n) k bs h =
+    let d : drop 4 (drop (k * 4) (take m bs)) ≡ drop ((k + 1) * 4) (take m bs) = drop-drop 4 (k * 4) (take m bs) ∙ ap (λ (j : ℕ). drop j (take m bs)) (omega arith) in
+    ap₂ (λ (w : ℕ) (ws : List ℕ). w ∷ ws) (one_word m k bs (omega arith))
+    (ap (λ (xs : List ℕ). map (λ c. from_le_bytes w32 c) (first_chunks 4 n xs)) d ∙ words_on m n (k + 1) bs (omega arith))
+
+-- the words of a file, four bytes each
+pub chunked : (m : ℕ) (bs : List ℕ) (chunks : List (List ℕ)) (ws : List ℕ) → m ≡ min (length bs) 1292 → chunks ≡ first_chunks 4 (length (take m bs) / 4) (take m bs)
+    → ws ≡ map (λ c. from_le_bytes w32 c) chunks → ws ≡ file_words bs
+unfolding file_words
+chunked m bs chunks ws e f g =
+    let n : ℕ = length (take m bs) / 4 in
+    let w : n ≡ word_count bs = omega (arith, length-take 1292 bs, length-take m bs) in
+    g ∙ ap (λ (cs : List (List ℕ)). map (λ c. from_le_bytes w32 c) cs) f ∙ words_on m n 0 bs (omega (arith, length-take m bs))
+    ∙ ap (λ (k : ℕ). map (word_at bs) (range_with_len 0 k)) w
+
+pub file_words_length : (bs : List ℕ) → length (file_words bs) ≡ word_count bs
+unfolding file_words
+file_words_length bs = length-map (range_with_len 0 (word_count bs)) (word_at bs) ∙ length-range_with_len 0 (word_count bs)
 
 module _ (role : Role) (bs ws : List ℕ) (e : ws ≡ file_words bs) where
   pub faulty : (f : WordFault) → Err f ≡ check role ws → read_bytes role bs ≡ Err (record { word = f })
@@ -41,8 +72,8 @@ module _ (role : Role) (bs ws : List ℕ) (e : ws ≡ file_words bs) (f : read_b
   unfolding read_words
   known r c = f ∙ ap (λ (x : Result Head WordFault). in_card (held (file_words bs) x)) (sym (c ∙ ap (check role) e))
 
-  pub checked_good : (h : Head) → Ok h ≡ check role ws → Ok tt ≡ told_of (read_bytes role bs)
-  checked_good h c = sym (ap told_of (known (Ok h) c))
+  pub checked_good : (h : Head) → Ok h ≡ check role ws → Ok tt ≡ told (read_bytes role bs)
+  checked_good h c = sym (ap told (known (Ok h) c))
 
-  pub checked_bad : (g : WordFault) → Err g ≡ check role ws → Err (record { word = g }) ≡ told_of (read_bytes role bs)
-  checked_bad g c = sym (ap told_of (known (Err g) c))
+  pub checked_bad : (g : WordFault) → Err g ≡ check role ws → Err (record { word = g }) ≡ told (read_bytes role bs)
+  checked_bad g c = sym (ap told (known (Err g) c))

@@ -8,6 +8,6 @@ pub mod RoundTrip
 pub mod Collected
 pub mod Meant
 pub mod Named
-pub mod Laid
+pub mod Written
 pub mod Holding
 pub mod Files

@@ -10,7 +10,8 @@ use Rattle.lts.proofs.Lowest.{lists, lists_unique}
 use Rattle.cards.specs.Contents.{with_all}
 use Rattle.cards.proofs.Sorted.{Below}
 
-grown : (q s : ℕ) → q < 64 → inserted 64 q s ≡ bit_or s (2 ^ q)
+-- a set with one state more
+pub grown : (q s : ℕ) → q < 64 → inserted 64 q s ≡ bit_or s (2 ^ q)
 grown q s h = rw (lt-ltb q 64 h)
 
 pub with_below : (n s : ℕ) (qs : List ℕ) → n ≤ 64 → s < 2 ^ n → Below n qs → with_all s qs < 2 ^ n

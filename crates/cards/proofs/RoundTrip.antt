@@ -14,7 +14,7 @@ use Rattle.cards.specs.declared.lines.Label.{Label}
 use Rattle.cards.specs.declared.lines.Label.TheVariants.{Action, Silent}
 use Rattle.cards.specs.declared.lines.Line.{Line as LineT}
 use Rattle.cards.specs.declared.lines.Progress.{Progress}
-use Rattle.cards.specs.declared.lines.Progress.TheVariants.{Body}
+use Rattle.cards.specs.declared.lines.Progress.TheVariants.{Inside}
 use Rattle.cards.specs.declared.lines.Role.{Role}
 use Rattle.cards.specs.declared.lines.Role.TheVariants.{Card, Test}
 use Rattle.cards.specs.declared.lines.Word.{Word}
@@ -22,9 +22,9 @@ use Rattle.cards.specs.declared.lines.Word.TheVariants.{Line, Passing, End}
 use Rattle.cards.specs.Contents.{Contents, written, with_all, contents_of, held, read_words}
 use Rattle.cards.specs.Lines.{line_fits, lines_fit, rising}
 use Rattle.cards.specs.declared.faults.Reason.TheVariants.{Kind, Range}
-use Rattle.cards.specs.Reading.{fault, head_of, head_fits, checked_head, begun, and_then, check_from, check, lines_in, passing_in}
+use Rattle.cards.specs.Reading.{head_of, head_fits, checked_head, begun, at_place, and_then, check_from, check, lines_in, passing_in}
 use Rattle.cards.specs.Words.{bits, kind, line_word, head_word, passing_word, end_word, encode, decode, is_test}
-use Rattle.cards.proofs.Accepted.{Good, accepted, accepts, clash}
+use Rattle.cards.proofs.Accepted.{Good, known, accepted, accepts, clash}
 use Rattle.cards.proofs.Parts.{PartFits}
 use Rattle.cards.proofs.Passing.{with_below, with_exact, members_with, below_wider}
 use Rattle.cards.proofs.Sorted.{lines_of, passing_of, Below, rising_weaker, line_low, lines_in_lem, passing_in_lem, lines_counted, lines_fit_lem, lines_rise, in_order, passing_ascends, passing_below, card_passes_none}
@@ -55,17 +55,17 @@ record Opened (w : ℕ) (h : Head) : Type 0 where
   first : kind w ≡ 1
   fits : head_fits h ≡ true
 
-opened : (w i : ℕ) (K : Progress → Result Head WordFault) (h' : Head) → and_then K (begun w (checked_head w i)) ≡ Ok h'
-    → (h : Head) × Opened w h × (K (Body h w h.lines) ≡ Ok h')
+opened : (w i : ℕ) (K : Progress → Result Head WordFault) (h' : Head) → and_then K (at_place i (begun w (checked_head w))) ≡ Ok h'
+    → (h : Head) × Opened w h × (K (Inside (known h w h.lines)) ≡ Ok h')
 opened w i K h' e = by (kind w == 1) refl e
   where
-    second : nat_eq (kind w) 1 ≡ true → (b : Bool) → head_fits (head_of w) ≡ b → and_then K (begun w (cond b (Ok (head_of w)) (fault Range i))) ≡ Ok h'
-        → (h : Head) × Opened w h × (K (Body h w h.lines) ≡ Ok h')
+    second : nat_eq (kind w) 1 ≡ true → (b : Bool) → head_fits (head_of w) ≡ b → and_then K (at_place i (begun w (cond b (Ok (head_of w)) (Err Range)))) ≡ Ok h'
+        → (h : Head) × Opened w h × (K (Inside (known h w h.lines)) ≡ Ok h')
     second k true f r = (head_of w, record { is = refl; first = eqb-true (kind w) 1 k; fits = f }, r)
     second k false f r = absurd (clash r)
 
-    by : (b : Bool) → (kind w == 1) ≡ b → and_then K (begun w (cond b (cond (head_fits (head_of w)) (Ok (head_of w)) (fault Range i)) (fault Kind i))) ≡ Ok h'
-        → (h : Head) × Opened w h × (K (Body h w h.lines) ≡ Ok h')
+    by : (b : Bool) → (kind w == 1) ≡ b → and_then K (at_place i (begun w (cond b (cond (head_fits (head_of w)) (Ok (head_of w)) (Err Range)) (Err Kind)))) ≡ Ok h'
+        → (h : Head) × Opened w h × (K (Inside (known h w h.lines)) ≡ Ok h')
     by true k r = second k (head_fits (head_of w)) refl r
     by false k r = absurd (clash r)
 
@@ -255,8 +255,8 @@ passing_of_lem [] [] = refl
 passing_of_lem [] (q ∷ qs) = ap (λ (ps : List ℕ). q ∷ ps) (passing_of_lem [] qs)
 passing_of_lem (l ∷ ls) qs = passing_of_lem ls qs
 
-head_again : (k s n i : ℕ) → k ≤ 256 → s < n → n ≤ 64 → checked_head (head_word k s n) i ≡ Ok (record { lines = k; start = s; states = n })
-head_again k s n i hk hs hn =
+head_again : (k s n : ℕ) → k ≤ 256 → s < n → n ≤ 64 → checked_head (head_word k s n) ≡ Ok (record { lines = k; start = s; states = n })
+head_again k s n hk hs hn =
     let w : ℕ = head_word k s n in
     let e : kind w ≡ 1 = omega arith in
     let bk : bits w 16 12 ≡ k = omega arith in
@@ -315,7 +315,7 @@ module _ (role : Role) (c : Contents) (v : Valid role c) where
   unfolding check_from first head
   checked =
       ap (check role) words
-      ∙ (rw (head_again (length c.lines) c.start c.states 0 v.few v.starts v.most) (accepts role head first (length c.lines) 1 parts good))
+      ∙ (rw (head_again (length c.lines) c.start c.states v.few v.starts v.most) (accepts role head first (length c.lines) 1 parts good))
 
   lines_back : lines_in (written c) ≡ c.lines
   unfolding lines_in first parts

@@ -3,13 +3,12 @@ use Rattle.std.specs.Prelude.{ℕ, ◌+◌, ◌*◌, ◌/◌, ◌%◌, ◌^◌, 
 use Rattle.std.specs.List.{range_with_len}
 use Rattle.cards.specs.declared.faults.Reason.TheVariants.{Trailing}
 use Rattle.cards.specs.declared.faults.CardFault.{CardFault}
-use Rattle.cards.specs.declared.faults.LeftFault.{LeftFault}
-use Rattle.cards.specs.declared.faults.RightFault.{RightFault}
 use Rattle.cards.specs.declared.faults.SideFault.{SideFault}
 use Rattle.cards.specs.declared.faults.SideFault.TheVariants.{Left, Right}
 use Rattle.cards.specs.declared.faults.WordFault.{WordFault}
 use Rattle.cards.specs.declared.lines.Role.{Role}
 use Rattle.cards.specs.declared.lines.Role.TheVariants.{Card}
+use Rattle.cards.specs.Cards.{after_of}
 use Rattle.cards.specs.Contents.{Contents, read_words}
 use Rattle.cards.specs.Reading.{fault}
 
@@ -58,29 +57,9 @@ both_sides (Err e) r = Err (Left (record { card = e }))
 unfoldable pub read_sides : List ℕ → List ℕ → Result Sides SideFault
 read_sides left right = both_sides (read_bytes Card left) (read_bytes Card right)
 
--- what reading a file, or two, tells, and what is held afterwards: a refusal leaves all as it stood
-abbrev pub told_of : {A F : Type 0} → Result A F → Result (Unit {0}) F
-told_of (Ok c) = Ok tt
-told_of (Err e) = Err e
-
-abbrev pub after_of : {A B F : Type 0} → (A → B) → B → Result A F → B
-after_of f old (Ok c) = f c
-after_of f old (Err e) = old
-
-abbrev pub file_after : Contents → Result Contents CardFault → Contents
-file_after old r = after_of (λ c. c) old r
-
+-- what each of two cards holds after both files were read: a refusal leaves both as they stood
 abbrev pub left_after : Contents → Result Sides SideFault → Contents
 left_after old r = after_of (λ s. s.left) old r
 
 abbrev pub right_after : Contents → Result Sides SideFault → Contents
 right_after old r = after_of (λ s. s.right) old r
-
--- a file's fault as a left or a right one
-abbrev pub in_left : Result Contents CardFault → Result (Unit {0}) LeftFault
-in_left (Ok c) = Ok tt
-in_left (Err e) = Err (record { card = e })
-
-abbrev pub in_right : Result Contents CardFault → Result (Unit {0}) RightFault
-in_right (Ok c) = Ok tt
-in_right (Err e) = Err (record { card = e })

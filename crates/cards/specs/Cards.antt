@@ -1,7 +1,6 @@
 -- What a written card holds and means, and what reading makes of it. Assumes nothing.
 use Rattle.std.specs.Prelude.{ℕ, Ok, Err, vec_items, Result}
 use Rattle.lts.specs.System.{System}
-use Rattle.cards.specs.declared.faults.WordFault.{WordFault}
 use Rattle.cards.specs.declared.written_card.WrittenCard.{WrittenCard}
 use Rattle.cards.specs.Contents.{Contents}
 use Rattle.cards.specs.Lines.{system_of}
@@ -18,10 +17,13 @@ abbrev pub system : WrittenCard → System
 system c = system_of c.states c.start (vec_items c.lines)
 
 -- what reading tells, and what is held afterwards: a refusal leaves all as it stood
-abbrev pub told : Result Contents WordFault → Result (Unit {0}) WordFault
+abbrev pub told : {A F : Type 0} → Result A F → Result (Unit {0}) F
 told (Ok c) = Ok tt
 told (Err e) = Err e
 
-abbrev pub after : Contents → Result Contents WordFault → Contents
-after old (Ok c) = c
-after old (Err e) = old
+abbrev pub after_of : {A B F : Type 0} → (A → B) → B → Result A F → B
+after_of f old (Ok c) = f c
+after_of f old (Err e) = old
+
+abbrev pub after : {F : Type 0} → Contents → Result Contents F → Contents
+after old r = after_of (λ c. c) old r

@@ -1,5 +1,5 @@
 -- The lines of a written card and what they mean. Assumes nothing.
-use Rattle.std.specs.Prelude.{ℕ, ◌+◌, ◌*◌, ◌^◌, Bool, true, cond, ◌&&◌, List, [], ◌∷◌, ◌==◌, nat_lt}
+use Rattle.std.specs.Prelude.{◌≡◌, ℕ, ◌^◌, ◌<◌, Bool, true, cond, ◌&&◌, List, [], ◌∷◌, ◌==◌, nat_lt, slice_index_or}
 use Rattle.lts.specs.Sets.{union}
 use Rattle.lts.specs.System.{System}
 use Rattle.lts.specs.SetTypes.{StateSet}
@@ -7,14 +7,10 @@ use Rattle.cards.specs.declared.lines.Label.{Label}
 use Rattle.cards.specs.declared.lines.Label.TheVariants.{Action, Silent}
 use Rattle.cards.specs.declared.lines.Line.{Line}
 
--- the column of a label in a table of 33 columns: the actions, and last what is silent
+-- the column of a label in a row of 33: the actions, and last what is silent
 abbrev pub column : Label → ℕ
 column (Action a) = a
 column Silent = 32
-
--- the place of a line's set in that table, where each state has a row
-abbrev pub place : Line → ℕ
-place l = l.from * 33 + column l.label
 
 -- where the line leads, if it leaves p and stands in column k
 abbrev pub hit : Line → ℕ → ℕ → ℕ
@@ -53,3 +49,11 @@ rising b (x ∷ xs) = nat_lt b x && rising x xs
 
 abbrev pub no_states : StateSet
 no_states = record { bits = 0 }
+
+-- the set in row p and column k of a table: none where there is no such row
+abbrev pub set_at : List (List StateSet) → ℕ → ℕ → ℕ
+set_at rows p k = (slice_index_or (slice_index_or rows p []) k no_states).bits
+
+-- the table of these lines, with 33 columns
+abbrev pub Tabled : List (List StateSet) → List Line → Type 0
+Tabled rows ls = (p k : ℕ) → k < 33 → set_at rows p k ≡ targets ls p k

@@ -3,10 +3,11 @@ use Rattle.std.specs.Prelude.{ℕ, ◌+◌, ◌-◌, Bool, true, cond, ◌&&◌,
 use Rattle.cards.specs.declared.faults.Reason.{Reason}
 use Rattle.cards.specs.declared.faults.Reason.TheVariants.{Missing, Kind, Range, Order, Lines, Trailing}
 use Rattle.cards.specs.declared.faults.WordFault.{WordFault}
+use Rattle.cards.specs.declared.lines.Body.{Body}
 use Rattle.cards.specs.declared.lines.Head.{Head}
 use Rattle.cards.specs.declared.lines.Line.{Line as LineT}
 use Rattle.cards.specs.declared.lines.Progress.{Progress}
-use Rattle.cards.specs.declared.lines.Progress.TheVariants.{Start, Body, Ended}
+use Rattle.cards.specs.declared.lines.Progress.TheVariants.{Start, Inside, Ended}
 use Rattle.cards.specs.declared.lines.Role.{Role}
 use Rattle.cards.specs.declared.lines.Role.TheVariants.{Test}
 use Rattle.cards.specs.declared.lines.Word.{Word}
@@ -24,9 +25,9 @@ head_of w = record { lines = bits w 16 12; start = bits w 8 8; states = bits w 0
 abbrev pub head_fits : Head → Bool
 head_fits h = nat_lt 0 h.states && nat_le h.states 64 && nat_lt h.start h.states && nat_le h.lines 256
 
--- the first word, at place i
-abbrev pub checked_head : ℕ → ℕ → Result Head WordFault
-checked_head w i = cond (kind w == 1) (cond (head_fits (head_of w)) (Ok (head_of w)) (fault Range i)) (fault Kind i)
+-- the first word
+abbrev pub checked_head : ℕ → Result Head Reason
+checked_head w = cond (kind w == 1) (cond (head_fits (head_of w)) (Ok (head_of w)) (Err Range)) (Err Kind)
 
 -- the states that a part names are below the number of states
 abbrev pub within : ℕ → Word → Bool
@@ -40,37 +41,42 @@ counted left (Line l) = nat_lt 0 left
 counted left (Passing q) = true
 counted left End = left == 0
 
--- a word w at place i after the word before, where left lines are to come: the checks in their order
-abbrev pub judged : ℕ → ℕ → ℕ → ℕ → ℕ → Option Word → Result Word WordFault
-judged n before left w i None = fault Kind i
-judged n before left w i (Some x) =
-    cond (within n x) (cond (nat_lt before w) (cond (counted left x) (Ok x) (fault Lines i)) (fault Order i)) (fault Range i)
+-- a word w after what is known: the checks in their order
+abbrev pub judged : Body → ℕ → Option Word → Result Word Reason
+judged b w None = Err Kind
+judged b w (Some x) =
+    cond (within b.head.states x) (cond (nat_lt b.last w) (cond (counted b.left x) (Ok x) (Err Lines)) (Err Order)) (Err Range)
 
 -- what is known after a part
-abbrev pub moved : Head → ℕ → ℕ → Word → Progress
-moved h w left (Line l) = Body h w (left - 1)
-moved h w left (Passing q) = Body h w left
-moved h w left End = Ended h
+abbrev pub moved : Body → ℕ → Word → Progress
+moved b w (Line l) = Inside (record { head = b.head; last = w; left = b.left - 1 })
+moved b w (Passing q) = Inside (record { head = b.head; last = w; left = b.left })
+moved b w End = Ended b.head
 
-abbrev pub begun : ℕ → Result Head WordFault → Result Progress WordFault
-begun w (Ok h) = Ok (Body h w h.lines)
+abbrev pub begun : ℕ → Result Head Reason → Result Progress Reason
+begun w (Ok h) = Ok (Inside (record { head = h; last = w; left = h.lines }))
 begun w (Err e) = Err e
 
-abbrev pub onward : Head → ℕ → ℕ → Result Word WordFault → Result Progress WordFault
-onward h w left (Ok x) = Ok (moved h w left x)
-onward h w left (Err e) = Err e
+abbrev pub onward : Body → ℕ → Result Word Reason → Result Progress Reason
+onward b w (Ok x) = Ok (moved b w x)
+onward b w (Err e) = Err e
 
--- one word more, at place i
-abbrev pub step : Role → Progress → ℕ → ℕ → Result Progress WordFault
-step role Start w i = begun w (checked_head w i)
-step role (Body h before left) w i = onward h w left (judged h.states before left w i (decode role w))
-step role (Ended h) w i = fault Trailing i
+-- one word more
+abbrev pub step : Role → Progress → ℕ → Result Progress Reason
+step role Start w = begun w (checked_head w)
+step role (Inside b) w = onward b w (judged b w (decode role w))
+step role (Ended h) w = Err Trailing
 
--- no word more, where i words were
-abbrev pub ended : Progress → ℕ → Result Head WordFault
-ended Start i = fault Missing i
-ended (Body h before left) i = fault Missing i
-ended (Ended h) i = Ok h
+-- no word more
+abbrev pub ended : Progress → Result Head Reason
+ended Start = Err Missing
+ended (Inside b) = Err Missing
+ended (Ended h) = Ok h
+
+-- the same with the place at which a refusal is told
+abbrev pub at_place : {A : Type 0} → ℕ → Result A Reason → Result A WordFault
+at_place i (Ok x) = Ok x
+at_place i (Err r) = fault r i
 
 -- the words from place i on
 abbrev pub and_then : {A B : Type 0} → (A → Result B WordFault) → Result A WordFault → Result B WordFault
@@ -78,8 +84,8 @@ and_then k (Ok x) = k x
 and_then k (Err e) = Err e
 
 unfoldable pub check_from : Role → Progress → ℕ → List ℕ → Result Head WordFault
-check_from role p i [] = ended p i
-check_from role p i (w ∷ ws) = and_then (λ p'. check_from role p' (i + 1) ws) (step role p w i)
+check_from role p i [] = at_place i (ended p)
+check_from role p i (w ∷ ws) = and_then (λ p'. check_from role p' (i + 1) ws) (at_place i (step role p w))
 
 -- the head, if all words are good, or the first fault
 abbrev pub check : Role → List ℕ → Result Head WordFault

@@ -10,7 +10,7 @@ use crate::collecting::collect;
 use crate::faults::{ShortBuffer, WordFault};
 use crate::lines::*;
 use crate::reading::check;
-use crate::tables::fill_table;
+use crate::tables::Table;
 use crate::written_card::WrittenCard;
 use lts::sets::StateSet;
 use lts::system::Lts;
@@ -18,11 +18,12 @@ use std::alloc::{AllocError, Global};
 
 impl WrittenCard {
     // A blank card: one state and no lines. All its memory is set aside here.
+    #[tactic(auto, unfolding(crate::specs::Lines::lines_fit, crate::specs::Lines::rising))]
     pub fn new(heap: Global) -> Result<WrittenCard, AllocError>
         ensures { IfOk result (λ c. contents c ≡ record { states = 1; start = 0; lines = []; passing = 0 }) }
     {
         let lines = Vec::with_capacity(heap, 256)?;
-        let table = vec![in heap; StateSet::empty(); 2112]?;
+        let table = Table::new(heap)?;
         Ok(WrittenCard {
             states: 1,
             start: 0,
@@ -39,13 +40,14 @@ impl WrittenCard {
     }
 
     // Fills the card from the words of a card or a test, and returns the passing states that they name.
+    #[tactic(auto, unfolding(crate::specs::Contents::read_words))]
     pub(crate) fn read_as(&mut self, role: Role, words: &[u32]) -> Result<StateSet, WordFault>
         ensures taken { MatchResult result (λ p. read_words role words.now ≡ Ok (contents_with p.bits self.new)) (λ f. read_words role words.now ≡ Err f) }
         ensures kept { OnErr result (self.new ≡ self.old) }
     {
         let head = check(role, words)?;
         let passing = collect(&mut self.lines, words);
-        fill_table(&mut self.table, &self.lines);
+        self.table.fill(&self.lines);
         self.states = head.states;
         self.start = head.start;
         Ok(passing)
@@ -90,18 +92,14 @@ impl Lts for WrittenCard {
     }
 
     fn visible(&self, state: usize, action: usize) -> StateSet {
-        if state < 64 && action < 32 {
-            self.table[state * 33 + action]
+        if action < 32 {
+            self.table.targets(state, action)
         } else {
             StateSet::empty()
         }
     }
 
     fn hidden(&self, state: usize) -> StateSet {
-        if state < 64 {
-            self.table[state * 33 + 32]
-        } else {
-            StateSet::empty()
-        }
+        self.table.targets(state, 32)
     }
 }

@@ -8,6 +8,7 @@ use crate::words::decode;
 use lts::sets::StateSet;
 
 // Adds what one part names.
+#[tactic(auto, unfolding(crate::specs::Contents::with_all))]
 fn put(lines: &mut Vec<Line>, passing: &mut StateSet, part: Word)
     requires { length (lines.old.items ++ as_line (Some part) []) ≤ vec_capacity lines.old }
     ensures lines { lines.new.items ≡ lines.old.items ++ as_line (Some part) [] }

@@ -7,17 +7,17 @@ ghost use Rattle.cards.specs.declared.faults.SideFault.TheVariants.{Left, Right}
 #[derive(Clone, Copy, PartialEq, Eq, Debug)]
 pub enum Reason {
     // the words end before an end word
-    Missing,
+    Missing = 1,
     // a kind that may not stand here, or an unused bit that is set
-    Kind,
+    Kind = 2,
     // a number out of its range
-    Range,
+    Range = 3,
     // not above the word before
-    Order,
+    Order = 4,
     // more or fewer lines than the head says
-    Lines,
+    Lines = 5,
     // something follows the end word
-    Trailing,
+    Trailing = 6,
 }
 
 impl Reason {
@@ -25,14 +25,7 @@ impl Reason {
     pub fn number(self) -> u8
         ensures { result ≡ number_of self }
     {
-        match self {
-            Reason::Missing => 1,
-            Reason::Kind => 2,
-            Reason::Range => 3,
-            Reason::Order => 4,
-            Reason::Lines => 5,
-            Reason::Trailing => 6,
-        }
+        self as u8
     }
 }
 
@@ -49,7 +42,7 @@ pub struct CardFault {
     pub word: WordFault,
 }
 
-// A refused left file of two.
+// A refused left file of two. One type for both sides would be no plainer: it would need a marker for the side, on which `?` chooses.
 #[derive(Clone, Copy, PartialEq, Eq, Debug)]
 pub struct LeftFault {
     pub card: CardFault,
@@ -72,6 +65,7 @@ pub enum SideFault {
 #[derive(Clone, Copy, PartialEq, Eq, Debug)]
 pub struct ShortBuffer;
 
+// By hand and not derived, since a contract names the error that a `?` makes: so each has a `from_gives`.
 impl From<WordFault> for CardFault {
     ghost from_gives = { λ e f. f ≡ record { word = e } };
 

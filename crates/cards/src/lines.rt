@@ -38,13 +38,21 @@ pub enum Role {
     Test,
 }
 
+// What is known between the head and the end: the head, the word before, and how many lines are to come.
+#[derive(Clone, Copy, PartialEq, Eq, Debug)]
+pub struct Body {
+    pub head: Head,
+    pub last: u32,
+    pub left: usize,
+}
+
 // How far the reading of words has come.
 #[derive(Clone, Copy, PartialEq, Eq, Debug)]
 pub enum Progress {
     // nothing is read
     Start,
-    // the head is read; `last` is the word before, and `left` lines are to come
-    Body(Head, u32, usize),
+    // the head is read
+    Inside(Body),
     // the end word is read
     Ended(Head),
 }

@@ -1,6 +1,6 @@
 // Checking the words of a card or a test.
 ghost use Rattle.std.specs.Prelude.{◌≡◌, ℕ, ◌+◌, ◌*◌, ◌^◌, ◌<◌, ◌≤◌};
-ghost use Rattle.cards.specs.Reading.{head_of as head_in, head_fits, checked_head as head_checked, within as within_in, counted as counted_in, judged, step as stepped, ended as ended_at, check as checked};
+ghost use Rattle.cards.specs.Reading.{head_fits, checked_head as head_checked, within as within_in, counted as counted_in, judged, onward, step as stepped, ended as ended_in, check as checked};
 ghost use Rattle.cards.specs.Words.{decode as decoded};
 
 use crate::faults::{Reason, WordFault};
@@ -8,19 +8,6 @@ use crate::lines::*;
 use crate::words::{bits, decode};
 
 impl Head {
-    fn of(word: u32) -> Head
-        ensures { result ≡ head_in word }
-    {
-        let lines = bits(word, 16, 12) as usize;
-        let start = bits(word, 8, 8) as usize;
-        let states = bits(word, 0, 8) as usize;
-        Head {
-            lines,
-            start,
-            states,
-        }
-    }
-
     fn fits(&self) -> bool
         ensures { result ≡ head_fits self.now }
     {
@@ -29,23 +16,25 @@ impl Head {
 }
 
 // The first word.
-fn checked_head(word: u32, place: usize) -> Result<Head, WordFault>
-    ensures { result ≡ head_checked word place }
-{
-    let true = word >> 28 == 1 else {
-        return Err(WordFault {
-            reason: Reason::Kind,
-            place,
-        });
-    };
-    let head = Head::of(word);
-    let true = head.fits() else {
-        return Err(WordFault {
-            reason: Reason::Range,
-            place,
-        });
-    };
-    Ok(head)
+impl TryFrom<u32> for Head {
+    type Error = Reason;
+
+    ghost try_from_gives = { λ word head. head ≡ head_checked word };
+
+    fn try_from(word: u32) -> Result<Head, Reason> {
+        if word >> 28 != 1 {
+            return Err(Reason::Kind);
+        }
+        let head = Head {
+            lines: bits(word, 16, 12) as usize,
+            start: bits(word, 8, 8) as usize,
+            states: bits(word, 0, 8) as usize,
+        };
+        if !head.fits() {
+            return Err(Reason::Range);
+        }
+        Ok(head)
+    }
 }
 
 impl Word {
@@ -72,82 +61,66 @@ impl Word {
     }
 }
 
-// A word after the head.
-fn checked_word(
-    role: Role,
-    states: usize,
-    last: u32,
-    left: usize,
-    word: u32,
-    place: usize,
-) -> Result<Word, WordFault>
-    ensures { result ≡ judged states last left word place (decoded role word) }
-{
-    let Some(part) = decode(role, word) else {
-        return Err(WordFault {
-            reason: Reason::Kind,
-            place,
-        });
-    };
-    let true = part.within(states) else {
-        return Err(WordFault {
-            reason: Reason::Range,
-            place,
-        });
-    };
-    let true = last < word else {
-        return Err(WordFault {
-            reason: Reason::Order,
-            place,
-        });
-    };
-    let true = part.counted(left) else {
-        return Err(WordFault {
-            reason: Reason::Lines,
-            place,
-        });
-    };
-    Ok(part)
+impl Body {
+    // The next word, taken apart.
+    fn part(self, role: Role, word: u32) -> Result<Word, Reason>
+        ensures { result ≡ judged self word (decoded role word) }
+    {
+        let part = decode(role, word).ok_or(Reason::Kind)?;
+        if !part.within(self.head.states) {
+            return Err(Reason::Range);
+        }
+        if word <= self.last {
+            return Err(Reason::Order);
+        }
+        if !part.counted(self.left) {
+            return Err(Reason::Lines);
+        }
+        Ok(part)
+    }
+
+    // What is known after the next word.
+    fn step(self, role: Role, word: u32) -> Result<Progress, Reason>
+        ensures { result ≡ onward self word (judged self word (decoded role word)) }
+    {
+        let left = match self.part(role, word)? {
+            Word::Line(_) => self.left.saturating_sub(1),
+            Word::Passing(_) => self.left,
+            Word::End => return Ok(Progress::Ended(self.head)),
+        };
+        Ok(Progress::Inside(Body {
+            last: word,
+            left,
+            ..self
+        }))
+    }
 }
 
 impl Progress {
-    // One word more, at its place.
-    fn step(self, role: Role, word: u32, place: usize) -> Result<Progress, WordFault>
-        ensures { result ≡ stepped role self word place }
+    // One word more.
+    fn step(self, role: Role, word: u32) -> Result<Progress, Reason>
+        ensures { result ≡ stepped role self word }
     {
         match self {
             Progress::Start => {
-                let head = checked_head(word, place)?;
-                Ok(Progress::Body(head, word, head.lines))
+                let head = Head::try_from(word)?;
+                Ok(Progress::Inside(Body {
+                    head,
+                    last: word,
+                    left: head.lines,
+                }))
             }
-            Progress::Body(head, last, left) => match checked_word(
-                role,
-                head.states,
-                last,
-                left,
-                word,
-                place,
-            )? {
-                Word::Line(_) => Ok(Progress::Body(head, word, left.saturating_sub(1))),
-                Word::Passing(_) => Ok(Progress::Body(head, word, left)),
-                Word::End => Ok(Progress::Ended(head)),
-            },
-            Progress::Ended(_) => Err(WordFault {
-                reason: Reason::Trailing,
-                place,
-            }),
+            Progress::Inside(body) => body.step(role, word),
+            Progress::Ended(_) => Err(Reason::Trailing),
         }
     }
 
-    // No word more, where so many words were.
-    fn ended(self, place: usize) -> Result<Head, WordFault>
-        ensures { result ≡ ended_at self place }
+    // No word more.
+    fn ended(self) -> Result<Head, Reason>
+        ensures { result ≡ ended_in self }
     {
         match self {
-            Progress::Start | Progress::Body(_, _, _) => Err(WordFault {
-                reason: Reason::Missing,
-                place,
-            }),
+            Progress::Start | Progress::Inside(_) => Err(Reason::Missing),
             Progress::Ended(head) => Ok(head),
         }
     }
@@ -158,10 +131,13 @@ pub(crate) fn check(role: Role, words: &[u32]) -> Result<Head, WordFault>
     ensures { result ≡ checked role words.now }
 {
     let mut progress = Progress::Start;
-    let mut place = 0;
-    for word in words {
-        progress = progress.step(role, *word, place)?;
-        place += 1;
+    for (place, word) in words.iter().enumerate() {
+        progress = progress
+            .step(role, *word)
+            .map_err(|reason| WordFault { reason, place })?;
     }
-    progress.ended(place)
+    let place = words.len();
+    progress
+        .ended()
+        .map_err(|reason| WordFault { reason, place })
 }

@@ -1,12 +1,13 @@
 // The table of a written card.
-ghost use Rattle.std.specs.Prelude.{◌≡◌, ℕ, ◌+◌, ◌*◌, ◌/◌, ◌%◌, ◌<◌, ◌≤◌, true, length, vec_len, slice_index_or};
-ghost use Rattle.cards.specs.Lines.{column as column_of, place as place_of, targets, line_fits, lines_fit, no_states};
+ghost use Rattle.std.specs.Prelude.{◌≡◌, ℕ, ◌+◌, ◌*◌, ◌<◌, ◌≤◌, true, [], IfOk, vec_len};
+ghost use Rattle.cards.specs.Lines.{column as column_of, lines_fit, set_at, Tabled};
 
 use crate::lines::*;
 use lts::sets::StateSet;
+use std::alloc::{AllocError, Global};
 
 impl Label {
-    // Its column in a table of 33.
+    // Its column in a row of 33: the actions, and last what is silent.
     fn column(self) -> usize
         ensures { result ≡ column_of self }
     {
@@ -17,38 +18,43 @@ impl Label {
     }
 }
 
-impl Line {
-    // Where its set stands in the table.
-    fn place(self) -> usize
-        requires { line_fits 64 self ≡ true }
-        ensures value { result ≡ place_of self }
-        ensures below { result < 2112 }
+// The sets of states that lines lead to: a row for each state, and in it a column for each label.
+#[derive(Drop)]
+pub(crate) struct Table {
+    rows: Vec<[StateSet; 33]>,
+    ghost wide: { vec_len rows ≡ 64 },
+}
+
+impl Table {
+    // The table of no lines. All its memory is set aside here.
+    pub(crate) fn new(heap: Global) -> Result<Table, AllocError>
+        ensures { IfOk result (λ t. Tabled t.rows.items []) }
     {
-        usize::from(self.from) * 33 + self.label.column()
+        let rows = vec![in heap; [StateSet::empty(); 33]; 64]?;
+        Ok(Table { rows })
     }
-}
 
-fn clear(table: &mut Vec<StateSet>)
-    ensures empty { (i : ℕ) → (slice_index_or table.new.items i no_states).bits ≡ 0 }
-    ensures len { vec_len table.new ≡ vec_len table.old }
-{
-    for place in 0..table.len() {
-        table[place] = StateSet::empty();
+    // Makes it the table of these lines.
+    #[tactic(auto, using(crate::proofs::Tabled::fits_at))]
+    pub(crate) fn fill(&mut self, lines: &[Line])
+        requires { lines_fit 64 lines.now ≡ true }
+        ensures { Tabled self.new.rows.items lines.now }
+    {
+        self.rows.fill([StateSet::empty(); 33]);
+        for line in lines {
+            let row = &mut self.rows[usize::from(line.from)];
+            row[line.label.column()].insert(usize::from(line.to));
+        }
     }
-}
 
-// The sets of states that the lines lead to, by state and label.
-pub(crate) fn fill_table(table: &mut Vec<StateSet>, lines: &[Line])
-    requires wide { vec_len table.old ≡ 2112 }
-    requires sound { lines_fit 64 lines.now ≡ true }
-    ensures tabled { (i : ℕ) → (slice_index_or table.new.items i no_states).bits ≡ targets lines.now (i / 33) (i % 33) }
-    ensures len { vec_len table.new ≡ vec_len table.old }
-{
-    clear(table);
-    for line in lines {
-        let place = line.place();
-        let mut cell = table[place];
-        cell.insert(usize::from(line.to));
-        table[place] = cell;
+    // The set of a state and a column: none for what is no state.
+    pub(crate) fn targets(&self, state: usize, column: usize) -> StateSet
+        requires { column < 33 }
+        ensures { result.bits ≡ set_at self.now.rows.items state column }
+    {
+        match self.rows.get(state) {
+            Some(row) => row[column],
+            None => StateSet::empty(),
+        }
     }
 }

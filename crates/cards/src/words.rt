@@ -12,31 +12,24 @@ pub(crate) fn bits(word: u32, low: u32, width: u32) -> u32
     word >> low & ((1 << width) - 1)
 }
 
-fn number(word: u32, low: u32, width: u32) -> u8
-    requires { (low + width ≤ 28) × (width ≤ 8) }
-    ensures { result ≡ bits_of word low width }
-{
-    bits(word, low, width) as u8
-}
+impl From<Line> for u32 {
+    ghost from_gives = { λ line word. word ≡ line_word line };
 
-impl Line {
-    pub(crate) fn word(self) -> u32
-        ensures { result ≡ line_word self }
-    {
-        let ends = u32::from(self.from) * 0x800 + u32::from(self.to);
-        match self.label {
+    fn from(line: Line) -> u32 {
+        let ends = u32::from(line.from) * 0x800 + u32::from(line.to);
+        match line.label {
             Label::Action(action) => 0x2000_0000 + u32::from(action) * 0x40 + ends,
             Label::Silent => 0x3000_0000 + ends,
         }
     }
 }
 
-impl Word {
-    pub(crate) fn encode(self) -> u32
-        ensures { result ≡ encoded self }
-    {
-        match self {
-            Word::Line(line) => line.word(),
+impl From<Word> for u32 {
+    ghost from_gives = { λ part word. word ≡ encoded part };
+
+    fn from(part: Word) -> u32 {
+        match part {
+            Word::Line(line) => u32::from(line),
             Word::Passing(state) => 0x4000_0000 + u32::from(state),
             Word::End => 0x5000_0000,
         }
@@ -44,15 +37,16 @@ impl Word {
 }
 
 // What a word would be by its kind.
+// The kinds stay numbers: an enum of them would be no plainer, since it would need this match and one more from number to kind.
 fn by_kind(role: Role, word: u32) -> Option<Word>
     ensures { result ≡ by_kind role word }
 {
-    let from = number(word, 11, 6);
-    let to = number(word, 0, 6);
+    let from = bits(word, 11, 6) as u8;
+    let to = bits(word, 0, 6) as u8;
     match (word >> 28, role) {
         (2, _) => Some(Word::Line(Line {
             from,
-            label: Label::Action(number(word, 6, 5)),
+            label: Label::Action(bits(word, 6, 5) as u8),
             to,
         })),
         (3, _) => Some(Word::Line(Line {
@@ -67,13 +61,9 @@ fn by_kind(role: Role, word: u32) -> Option<Word>
 }
 
 // A word after the head, where its kind may stand there and no unused bit is set.
+#[tactic(auto, unfolding(crate::specs::Words::decode))]
 pub(crate) fn decode(role: Role, word: u32) -> Option<Word>
     ensures { result ≡ decoded role word }
 {
-    let part = by_kind(role, word)?;
-    if part.encode() == word {
-        Some(part)
-    } else {
-        None
-    }
+    by_kind(role, word).filter(|part| u32::from(*part) == word)
 }

@@ -1,33 +1,25 @@
-use Rattle.std.proofs.Common.{◌≡◌, ℕ, ◌<◌, ◌≤◌, ◌≢◌, map, length, ap, ◌∙◌, arith, length-set, length-take, get_or-set_other, get_or-set_same, below_more}
-use Rattle.std.specs.List.{range_with_len}
-use Rattle.std.proofs.lemmas.List.FromFn.{fill_by_all}
-use Rattle.std.proofs.lemmas.List.{get_or-take, length-take-le}
-use Rattle.cards.specs.Bytes.{word_at, word_count, file_words}
+use Rattle.std.proofs.Common.{length, sym, ap, ◌∙◌, arith, eqb-true, length-take}
+use Rattle.std.proofs.lemmas.Bool.{eqb-false}
+use Rattle.std.proofs.lemmas.Result.{err_from_is_err_and}
+use Rattle.cards.proofs.Files.{chunked, file_words_length, faulty, left_over, none_left}
 use Rattle.cards.proofs.bytes.file_words.Goals as goal
 
-pub loop-place-preserved : goal.loop-place-preserved
-loop-place-preserved c =
-    let ws = c.loop-place.words in
-    let i = c.loop-place.place in
-    let room : i < length ws = omega (arith, c.loop-place.invariant.0) in (
-      length-set ws i c.word_at.result ∙ c.loop-place.invariant.0,
-      below_more _ _
-          (λ k h. let ne : k ≢ i = omega arith in get_or-set_other ws i k c.word_at.result 0 ne ∙ c.loop-place.invariant.1 k h)
-          (get_or-set_same ws i c.word_at.result 0 room ∙ c.word_at.ensures),
-    )
+pub returns-then-is_empty : goal.returns-then-is_empty
+returns-then-is_empty c = (
+  chunked c.min.result c.args.bytes.now _ _ c.min.ensures c.as_chunks.ensures.front c.words_of-words.ensures,
+  none_left c.args.role c.args.bytes.now
+      (omega (arith, eqb-true _ 0 (sym c.is_empty.ensures ∙ c.if-is_empty.true), c.min.ensures, c.as_chunks.ensures.back_len, length-take c.min.result c.args.bytes.now)),
+)
+
+pub returns-in_err-check : goal.returns-in_err-check
+returns-in_err-check c =
+    let e = c.as_slice.ensures.value ∙ chunked c.min.result c.args.bytes.now _ _ c.min.ensures c.as_chunks.ensures.front c.words_of-words.ensures in
+    let p = err_from_is_err_and c.from_residual.result c.from_residual.ensures.1 in
+    rw (p.1, p.2) (faulty c.args.role c.args.bytes.now _ e _ c.in_err-check.ensures)
 
 pub returns : goal.returns
-unfolding file_words
 returns c =
-    let n = c.min-count.result in
-    let ws = c.loop-place.words in
-    let bs = c.args.bytes.now in
-    let e : n ≡ word_count bs = omega (arith, c.min-count.ensures, length-take 1292 bs) in
-    let b : n ≤ 323 = omega (arith, c.min-count.ensures) in
-    record {
-      count = e;
-      below = b;
-      words =
-          fill_by_all (word_at bs) _ n 0 (length-take-le n ws (omega (arith, c.loop-place.invariant.0))) (λ k h. get_or-take n ws k 0 h ∙ c.loop-place.invariant.1 k (omega arith))
-          ∙ ap (λ (m : ℕ). map (word_at bs) (range_with_len 0 m)) e;
-    }
+    let e = chunked c.min.result c.args.bytes.now _ _ c.min.ensures c.as_chunks.ensures.front c.words_of-words.ensures in
+    left_over c.args.role c.args.bytes.now _ (c.as_slice.ensures.value ∙ e) c.in_ok-check.field-0 c.len.result c.in_ok-check.ensures
+    (omega (arith, eqb-false _ 0 (sym c.is_empty.ensures ∙ c.if-is_empty.false), c.min.ensures, c.as_chunks.ensures.back_len, length-take c.min.result c.args.bytes.now))
+    (omega (arith, c.len.ensures.value, ap length e, file_words_length c.args.bytes.now))

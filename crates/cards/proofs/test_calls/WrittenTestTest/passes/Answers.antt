@@ -2,12 +2,8 @@ use Rattle.std.proofs.Common.{◌∙◌, arith}
 use Rattle.lts.proofs.Membership.{outside, out_has}
 use Rattle.cards.proofs.test_calls.WrittenTestTest.passes.Goals as goal
 
-pub returns : goal.returns
-returns c =
+pub returns-clause-within : goal.returns-clause-within
+returns-clause-within c h =
     let t = c.args.self.now in
-    record {
-      value = c.contains.ensures;
-      within = λ h.
-          c.contains.ensures
-          ∙ out_has c.args.state t.passing.bits (λ i. let z = outside t.card.states t.passing.bits c.args.state t.within h in omega arith);
-    }
+    c.contains.ensures
+    ∙ out_has c.args.state t.passing.bits (λ i. let z = outside t.card.states t.passing.bits c.args.state t.within h in omega arith)

@@ -1,35 +1,22 @@
-use Rattle.std.proofs.Common.{ℕ, ◌/◌, ◌%◌, List, map, length, Ok, sym, refl, ap, ◌∙◌, ap₂, arith}
-use Rattle.std.proofs.lemmas.Result.{err_from_is_err_and}
+use Rattle.std.proofs.Common.{List, map, length, sym, ap, ◌∙◌, subst, arith}
 use Rattle.cards.specs.declared.lines.Line.{Line}
-use Rattle.cards.specs.Contents.{held, read_words}
-use Rattle.cards.specs.Lines.{lines_fit, rising, targets}
+use Rattle.cards.specs.Lines.{lines_fit, rising, Tabled}
 use Rattle.cards.specs.Words.{line_word}
 use Rattle.cards.proofs.RoundTrip.{taken_sized, taken_counted, taken_fit, taken_rising}
 use Rattle.cards.proofs.Tabled.{lines_fit_wider}
 use Rattle.cards.proofs.written_card.WrittenCard.read_as.Goals as goal
-
-pub returns-in_err-head : goal.returns-in_err-head
-unfolding read_words
-returns-in_err-head c =
-    let e = c.in_err-head.ensures in
-    let p = err_from_is_err_and c.from_residual.result c.from_residual.ensures.1 in
-    record { taken = rw (p.1, p.2) (ap (held c.args.words.now) (sym e)); kept = rw p.1 refl }
 
 pub collect-passing-requires : goal.collect-passing-requires
 collect-passing-requires c =
     let e = sym c.in_ok-head.ensures in
     omega (arith, taken_counted c.args.role c.args.words.now c.in_ok-head.head e, (taken_sized c.args.role c.args.words.now c.in_ok-head.head e).few, c.args.self.now.few.1)
 
-pub fill_table-requires : goal.fill_table-requires
-fill_table-requires c =
+pub fill-requires : goal.fill-requires
+fill-requires c =
     let e = sym c.in_ok-head.ensures in
     let h = c.in_ok-head.head in
-    record {
-      wide = c.args.self.now.wide;
-      sound =
-          ap (lines_fit 64) (c.deref.ensures.value ∙ c.collect-passing.ensures.lines)
-          ∙ lines_fit_wider h.states 64 _ (taken_sized c.args.role c.args.words.now h e).most (taken_fit c.args.role c.args.words.now h e);
-    }
+    ap (lines_fit 64) (c.deref.ensures.value ∙ c.collect-passing.ensures.lines)
+    ∙ lines_fit_wider h.states 64 _ (taken_sized c.args.role c.args.words.now h e).most (taken_fit c.args.role c.args.words.now h e)
 
 pub invariant_of-self : goal.invariant_of-self
 invariant_of-self c =
@@ -46,18 +33,5 @@ invariant_of-self c =
         omega (arith, c.collect-passing.new.lines.ok.0, ap length l, n, s.few),
         omega (arith, c.collect-passing.ensures.room, c.args.self.now.few.1),
       );
-      wide = c.fill_table.ensures.len ∙ c.args.self.now.wide;
-      tabled = λ i. c.fill_table.ensures.tabled i ∙ ap (λ (ls : List Line). targets ls (i / 33) (i % 33)) c.deref.ensures.value;
-    }
-
-pub returns : goal.returns
-unfolding read_words
-returns c =
-    let e = sym c.in_ok-head.ensures in
-    record {
-      taken =
-          ap (held c.args.words.now) e
-          ∙ ap₂ (λ (ls : List Line) (p : ℕ). Ok (record { states = c.in_ok-head.head.states; start = c.in_ok-head.head.start; lines = ls; passing = p }))
-          (sym c.collect-passing.ensures.lines) (sym c.collect-passing.ensures.passing);
-      kept = tt;
+      tabled = subst (Tabled c.fill.new.self.rows.items) c.deref.ensures.value c.fill.ensures;
     }

@@ -1,23 +1,20 @@
-use Rattle.std.proofs.Common.{◌≡◌, ℕ, ◌^◌, ◌≤◌, true, false, arith, pow_mono}
+use Rattle.std.proofs.Common.{◌^◌, ◌≤◌, arith, pow_mono}
+use Rattle.std.proofs.lemmas.Bool.{true≢false}
 use Rattle.cards.specs.declared.lines.Role.TheVariants.{Test}
 use Rattle.cards.specs.Tests.{test_contents}
 use Rattle.lts.proofs.Lowest.{members_few}
-use Rattle.cards.proofs.Laid.{written_length}
+use Rattle.cards.proofs.Written.{written_length}
 use Rattle.cards.proofs.Holding.{held_valid}
 use Rattle.cards.proofs.RoundTrip.{read_written}
 use Rattle.cards.proofs.written_test.WrittenTest.write.Goals as goal
 
--- true is not false
-not_false : true ≡ false → ⊥
-not_false e = let z : ◌≡◌ {A = ℕ} 0 1 = cc in omega arith
+pub returns-clause-again : goal.returns-clause-again
+returns-clause-again c =
+    let t = c.args.self.now in
+    read_written Test (test_contents t) (held_valid Test t.passing.bits t.card t.within (λ e. absurd (true≢false e)))
 
-pub returns : goal.returns
-returns c =
+pub returns-clause-few : goal.returns-clause-few
+returns-clause-few c =
     let t = c.args.self.now in
     let wide : 2 ^ t.card.states ≤ 2 ^ 64 = pow_mono t.card.sized.1 in
-    record {
-      told = c.write_as.ensures.told;
-      after = c.write_as.ensures.after;
-      again = read_written Test (test_contents t) (held_valid Test t.passing.bits t.card t.within (λ e. absurd (not_false e)));
-      few = omega (arith, written_length (test_contents t), members_few t.passing.bits (omega (arith, t.within)), t.card.few.0, t.card.lines.ok.0);
-    }
+    omega (arith, written_length (test_contents t), members_few t.passing.bits (omega (arith, t.within)), t.card.few.0, t.card.lines.ok.0)
