@@ -1,6 +1,3 @@
-pub mod Appending
 pub mod Hex
-pub mod Known
-pub mod Lists
-pub mod Moves
-pub mod Pieces
+pub mod Texts
+pub mod Written
