@@ -5,7 +5,7 @@ use Rattle.std.proofs.lemmas.Bool.{cond-true, cond-false, lt-ltb, le-ltb}
 use Rattle.traces.specs.Families.{within, covered, all_covered, without, placed, offered}
 use Rattle.traces.specs.Offered.{bits_of, free}
 use Rattle.traces.specs.Tables.{offer_at}
-use Rattle.lts.specs.declared.sets.ActionSet.{ActionSet}
+use Rattle.lts.specs.SetTypes.{ActionSet}
 
 -- the sets from place i on
 rest_more : (l : List ActionSet) (i : ℕ) → i < length l → drop i (bits_of l) ≡ offer_at l i ∷ drop (i + 1) (bits_of l)

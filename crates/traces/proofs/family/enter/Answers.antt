@@ -2,7 +2,7 @@ use Rattle.std.proofs.Common.{◌<◌, List, vec_items, vec_len, vec_capacity, s
 use Rattle.std.proofs.lemmas.Bool.{cond-true}
 use Rattle.traces.specs.Families.{covered}
 use Rattle.traces.specs.Offered.{bits_of}
-use Rattle.lts.specs.declared.sets.ActionSet.{ActionSet}
+use Rattle.lts.specs.SetTypes.{ActionSet}
 use Rattle.traces.proofs.FamilySteps.{Placed, offered_known, offered_new}
 use Rattle.traces.proofs.family.enter.Goals as goal
 
