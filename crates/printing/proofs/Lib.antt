@@ -1,3 +1,5 @@
 pub mod Hex
+pub mod Members
+pub mod Moves
 pub mod Texts
 pub mod Written

@@ -1,5 +1,5 @@
 // Lists of numbers as text.
-ghost use Rattle.std.specs.Prelude.{◌≡◌, ℕ, List, OnOk};
+ghost use Rattle.std.specs.Prelude.{◌≡◌, ℕ, List, IsOk};
 ghost use Rattle.std.specs.Fmt.{HasWritten, IsPlainFormatter};
 ghost use Rattle.std.specs.Iterator.{Drains, IsFinite};
 ghost use Rattle.printing.specs.Trails.{numbers_text};
@@ -13,7 +13,7 @@ pub(crate) fn write_numbers<W: fmt::Write, I: Iterator<Item = usize> + Drop>(
 ) -> fmt::Result
     requires can { I.can_next numbers }
     requires ends { IsFinite (I.remaining numbers) }
-    ensures { OnOk result ((ns : List ℕ) × Drains I.next_gives numbers ns × (IsPlainFormatter f.old → HasWritten W.write_str_gives f.old (numbers_text ns) f.new)) }
+    ensures { IsOk result → (ns : List ℕ) × Drains I.next_gives numbers ns × (IsPlainFormatter f.old → HasWritten W.write_str_gives f.old (numbers_text ns) f.new) }
 {
     let mut rest = numbers;
     let Some(first) = rest.next() else {
