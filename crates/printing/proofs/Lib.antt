@@ -1,4 +1,5 @@
 pub mod Hex
+pub mod Known
 pub mod Members
 pub mod Moves
 pub mod Texts

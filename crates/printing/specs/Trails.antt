@@ -21,9 +21,13 @@ abbrev pub numbers_text : List ℕ → List ℕ
 numbers_text [] = codes " -"
 numbers_text (n ∷ ns) = blanked_text (n ∷ ns)
 
--- a line for each set of actions
+-- a line for a set of actions
+abbrev pub accept_text : ℕ → List ℕ
+accept_text s = codes "accepts" ++ (numbers_text (members s) ++ newline)
+
+-- a line for each of the sets
 abbrev pub accepts_text : List ℕ → List ℕ
-accepts_text ss = flat_map (λ s. codes "accepts" ++ (numbers_text (members s) ++ newline)) ss
+accepts_text ss = flat_map accept_text ss
 
 abbrev pub convergent_text : Bool → List ℕ
 convergent_text true = codes "\nconvergent yes\n"
