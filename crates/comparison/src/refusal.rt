@@ -4,14 +4,14 @@ ghost use Rattle.comparison.specs.Calls.{number_of};
 
 #[derive(Clone, Copy, PartialEq, Eq, Debug)]
 pub enum Refusal {
-    // begin's limit or advance's count is 0 or above 2,048
-    LimitOrCount,
-    // advance, when the answer is not OPEN
-    NotOpen,
-    // copy, when the answer is not APART
-    NotApart,
     // copy, when the caller's buffer is shorter than the trace
-    ShortBuffer,
+    ShortBuffer = 8,
+    // begin's limit or advance's count is 0 or above 2,048
+    LimitOrCount = 9,
+    // advance, when the answer is not OPEN
+    NotOpen = 10,
+    // copy, when the answer is not APART
+    NotApart = 11,
 }
 
 impl Refusal {
@@ -19,11 +19,6 @@ impl Refusal {
     pub fn number(self) -> u8
         ensures { result ≡ number_of self }
     {
-        match self {
-            Refusal::ShortBuffer => 8,
-            Refusal::LimitOrCount => 9,
-            Refusal::NotOpen => 10,
-            Refusal::NotApart => 11,
-        }
+        self as u8
     }
 }

@@ -6,6 +6,7 @@ ghost use Rattle.std.proofs.Common.{arith};
 
 use lts::sets::StateSet;
 use lts::system::Lts;
+use thiserror::Error;
 
 // Counts from 0 up to its capacity: one action counts up, one counts down. Planners call it a cage.
 #[derive(Clone, Copy)]
@@ -17,15 +18,16 @@ pub struct Counter {
 }
 
 // Why a counter is refused.
-#[derive(Clone, Copy, PartialEq, Eq, Debug)]
+#[derive(Clone, Copy, PartialEq, Eq, Debug, Error)]
 pub enum CounterFault {
-    // a capacity above 63
+    #[error("the capacity is above 63")]
     Capacity,
-    // an action above 31
+    #[error("an action is above 31")]
     Action,
 }
 
 impl CounterFault {
+    // The number under which the refusal is told: one for both, so no discriminant can say it.
     pub fn number(self) -> u8
         ensures { result ≡ number_of self }
     {

@@ -49,10 +49,8 @@ impl<C: Lts> Lts for Hide<C> {
 
     fn hidden(&self, state: usize) -> StateSet {
         let mut states = self.inner.hidden(state);
-        for action in 0..32usize {
-            if self.actions.contains(action) {
-                states = states.union(self.inner.visible(state, action));
-            }
+        for action in self.actions.members() {
+            states = states.union(self.inner.visible(state, action));
         }
         states
     }

@@ -1,3 +1,4 @@
 pub mod Membership
 pub mod Lowest
 pub mod Order
+pub mod Unions

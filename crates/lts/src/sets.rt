@@ -1,5 +1,5 @@
 // Sets of states and of actions, each one machine word.
-ghost use Rattle.std.specs.Prelude.{◌≡◌, ℕ, ◌≤◌, Bool, not, length, ◌==◌};
+ghost use Rattle.std.specs.Prelude.{◌≡◌, ℕ, ◌^◌, ◌<◌, ◌≤◌, Bool, not, length, ◌==◌};
 ghost use Rattle.lts.specs.Sets.{has, union as union_of, intersection as intersection_of, complement as complement_of, within, inserted, Lists, members as members_of};
 
 use crate::members::Members;
@@ -111,6 +111,7 @@ impl<W: Word> Set<W> {
     // The members, in rising order.
     pub fn members(self) -> Members
         ensures value { result.rest ≡ W.number self.bits }
+        ensures below { result.rest < 2 ^ W.WIDTH }
         ensures listed { Lists (W.number self.bits) (members_of result.rest) }
     {
         Members::of(self.bits.widened())

@@ -6,6 +6,7 @@ ghost use Rattle.std.proofs.lemmas.Bool.{cond_both, cond-false, and_left, and_ri
 
 use lts::sets::StateSet;
 use lts::system::Lts;
+use std::array;
 use std::test::Fail;
 use traces::compile::compile_lent;
 use traces::family::Family;
@@ -91,10 +92,7 @@ fn silent_loop(rt: HostRuntime) -> Result<(), Fail> {
 // 64 states, each with a silent transition to the next: the system may be in any of them, and none is divergent.
 #[test]
 fn silent_chain(rt: HostRuntime) -> Result<(), Fail> {
-    let mut hidden = [0; 64];
-    for state in 0..63usize {
-        hidden[state] = 2 << state;
-    }
+    let hidden = array::from_fn(|state| if state < 63 { 2 << state } else { 0 });
     let at = compile_lent(&silent(64, u64::MAX, hidden), rt.alloc())?.first();
     assert_eq!(rt; at.states.bits(), u64::MAX);
     assert!(rt; at.convergent);

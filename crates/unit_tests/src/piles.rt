@@ -4,6 +4,7 @@ use layers::hide::Hide;
 use layers::parallel::{FitFault, Parallel, fit};
 use lts::sets::ActionSet;
 use lts::system::Lts;
+use std::array;
 use std::test::*;
 
 // Where the actions 0 to 3 and the silent transitions lead from the state.
@@ -19,11 +20,7 @@ fn sets<S: Lts>(system: &S, state: usize) -> [u64; 5] {
 
 // The same for the states below N.
 fn table<S: Lts, const N: usize>(system: &S) -> [[u64; 5]; N] {
-    let mut rows = [[0; 5]; N];
-    for state in 0..N {
-        rows[state] = sets(system, state);
-    }
-    rows
+    array::from_fn(|state| sets(system, state))
 }
 
 // A counter that takes in by 0 and hands over by 1 to one that hands out by 2; the hand-over is hidden.

@@ -2,19 +2,13 @@
 use lts::members::Members;
 use lts::sets::{ActionSet, StateSet};
 use std::process::Abort;
-use std::test::*;
 
-fn check_members(rt: &impl Abort, members: Members, expected: &[usize]) -> Result<(), Fail> {
-    let mut rest = members;
-    for member in expected {
-        assert_eq!(rt; rest.next(), Some(*member));
-    }
-    assert_eq!(rt; rest.next(), None);
-    Ok(())
+fn check_members(rt: &impl Abort, members: Members, expected: &[usize]) {
+    assert!(rt; members.eq(expected.iter().copied()));
 }
 
 #[test]
-fn states(rt: HostRuntime) -> Result<(), Fail> {
+fn states(rt: HostRuntime) {
     let mut set = StateSet::empty();
     assert!(rt; set.is_empty());
     assert_eq!(rt; set.insert(63), true);
@@ -28,13 +22,13 @@ fn states(rt: HostRuntime) -> Result<(), Fail> {
     assert!(rt; set.contains(63));
     assert!(rt; !set.contains(1));
     assert!(rt; !set.contains(64));
-    check_members(&rt, set.members(), &[0, 63])?;
+    check_members(&rt, set.members(), &[0, 63]);
     let both = set.union(StateSet::from_bits(0b110));
-    check_members(&rt, both.members(), &[0, 1, 2, 63])
+    check_members(&rt, both.members(), &[0, 1, 2, 63]);
 }
 
 #[test]
-fn actions(rt: HostRuntime) -> Result<(), Fail> {
+fn actions(rt: HostRuntime) {
     let mut set = ActionSet::empty();
     assert!(rt; set.is_empty());
     assert_eq!(rt; set.insert(31), true);
@@ -47,7 +41,23 @@ fn actions(rt: HostRuntime) -> Result<(), Fail> {
     assert!(rt; set.contains(31));
     assert!(rt; !set.contains(1));
     assert!(rt; !set.contains(32));
-    check_members(&rt, set.members(), &[0, 31])?;
+    check_members(&rt, set.members(), &[0, 31]);
     let both = set.union(ActionSet::from_bits(0b110));
-    check_members(&rt, both.members(), &[0, 1, 2, 31])
+    check_members(&rt, both.members(), &[0, 1, 2, 31]);
+}
+
+// Of the numbers 0 to 2: the even ones, and those above 0.
+#[test]
+fn two_sets(rt: HostRuntime) {
+    let even = ActionSet::from_bits(0b101);
+    let above = ActionSet::from_bits(0b110);
+    assert_eq!(rt; even.intersection(above).bits(), 0b100);
+    assert!(rt; !even.is_within(above));
+    assert!(rt; ActionSet::from_bits(0b100).is_within(above));
+    assert!(rt; ActionSet::empty().is_within(even));
+    assert_eq!(rt; even.complement().bits(), 0xFFFF_FFFA);
+    assert_eq!(rt;
+        StateSet::from_bits(0b101).complement().bits(),
+        0xFFFF_FFFF_FFFF_FFFA
+    );
 }

@@ -1,18 +1,18 @@
-use Rattle.std.proofs.Common.{sym, ◌∙◌}
-use lib.Bits.{or_zero_r}
-use Rattle.layers.specs.Silencing.{silenced_none, silenced_more}
-use Rattle.layers.proofs.hide.HideLts.hidden.Goals.{then-contains, else-contains}
+use Rattle.std.proofs.Common.{ap, ◌∙◌, arith}
+use Rattle.lts.specs.Sets.{members}
+use Rattle.lts.proofs.Unions.{joined_more, joined_all}
+use Rattle.layers.proofs.Gathered.{silenced_union}
 use Rattle.layers.proofs.hide.HideLts.hidden.Goals as goal
 
 pub loop-action-init : goal.loop-action-init
 loop-action-init g c =
-    c.hidden-states.ensures ∙ sym (silenced_none c.args.self.now.actions.bits (g.C.Lts.meaning c.args.self.now.inner) c.args.state)
+    let u = silenced_union c.args.self.now.actions.bits (g.C.Lts.meaning c.args.self.now.inner) c.args.state (omega arith) in
+    let i = c.into_iter-action-iterator.ensures.into_iter_gives in
+    (tt, tt, rw (c.hidden-states.ensures, i, c.members-action-items.ensures.value) u)
 
 pub loop-action-preserved : goal.loop-action-preserved
 loop-action-preserved g c =
-    let m = silenced_more c.args.self.now.actions.bits (g.C.Lts.meaning c.args.self.now.inner) c.args.state c.loop-action.action in
-    let e = c.contains.ensures in
-    elim c.if-contains.branch [
-      | then-contains w ↦ let r = rw (sym e, w.if-contains.true) at m in cc
-      | else-contains w ↦ let r = rw (sym e, w.if-contains.false, or_zero_r) at m in cc
-    ]
+    (tt, tt, joined_more _ c.loop-action.states.bits _ c.in-Some.action _ _ _ c.loop-action.invariant.2 c.in-Some.ensures.steps (c.union-states.ensures ∙ ap (λ s. Rattle.lts.specs.Sets.union c.loop-action.states.bits s) c.visible.ensures))
+
+pub returns : goal.returns
+returns g c = joined_all _ c.loop-action.states.bits _ _ c.loop-action.invariant.2 c.in-None.ensures.steps.0

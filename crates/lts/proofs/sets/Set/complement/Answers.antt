@@ -1,5 +1,5 @@
 -- The complement of a word is the set of the numbers outside it.
-use Rattle.std.proofs.Common.{◌<◌, ◌^◌, arith}
+use Rattle.std.proofs.Common.{arith}
 use Rattle.lts.proofs.Membership.{complement_sum}
 use Rattle.lts.proofs.sets.Set.complement.Goals as goal
 

@@ -1,4 +1,4 @@
-use Rattle.std.proofs.Common.{◌<◌, ◌^◌, length, ap, arith}
+use Rattle.std.proofs.Common.{length, ap, arith}
 use lib.Count.{ones-le}
 use Rattle.lts.specs.Sets.{members}
 use Rattle.lts.proofs.Lowest.{ones_members}

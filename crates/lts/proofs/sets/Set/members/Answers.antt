@@ -1,4 +1,4 @@
-use Rattle.std.proofs.Common.{◌<◌, ◌^◌, ◌∙◌, arith, subst}
+use Rattle.std.proofs.Common.{arith}
 use Rattle.lts.proofs.Lowest.{lists_of}
 use Rattle.lts.proofs.sets.Set.members.Goals as goal
 
