@@ -37,9 +37,9 @@ fn shown(rt: &HostRuntime, path: &str, trace: &[u8]) -> Result<String, AllocErro
 
 fn run(rt: &HostRuntime) -> anyhow::Result<()> {
     let mut args = env::args(rt)?.skip(1);
-    let path = args
-        .next()
-        .context("usage: card_show FILE [ACTION...], or card_show --two-counters")?;
+    let path = args.next().context(
+        "usage: card_show FILE [ACTION...], or card_show --two-counters",
+    )?;
     if path.as_str() == "--two-counters" {
         rt.print(two_counters(rt.alloc())?)?;
         return Ok(());

@@ -51,8 +51,10 @@ padded (suc k) (suc j) n acc m h = by (eqb (n / 16) 0) refl (padded k j (n / 16)
   where
     more : List ℕ
     more = glyph n ∷ acc
+
     ds : List ℕ
     ds = digits_onto (suc j) 16 true (n / 16) more
+
     by : (b : Bool) → b ≡ eqb (n / 16) 0 → wide k more ds ≡ hex_digits (suc k) (n / 16) ++ more → wide (suc k) acc (cond b more ds) ≡ hex_digits (suc (suc k)) n ++ acc
     by true e next = ended (suc k) n acc (eqb-true (n / 16) 0 (sym e))
     by false e next =

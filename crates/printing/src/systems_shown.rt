@@ -45,7 +45,12 @@ impl<S: Lts> fmt::Display for SystemShown<'_, S> {
             }
         }
         'silent: for state in 0..states {
-            write_targets(f, state as u8, Label::Silent, system.hidden(state).members())?;
+            write_targets(
+                f,
+                state as u8,
+                Label::Silent,
+                system.hidden(state).members(),
+            )?;
         }
         Ok(())
     }

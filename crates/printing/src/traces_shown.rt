@@ -6,31 +6,31 @@ ghost use Rattle.printing.specs.Trails.{trail_text, known_text, trace_text};
 use crate::cards_shown::fault_text;
 use crate::numbers::write_numbers;
 use cards::written_card::WrittenCard;
-use lts::sets::{ActionSet, StateSet};
+use lts::sets::ActionSet;
 use lts::system::Lts;
 use std::alloc::{AllocError, Global};
 use std::fmt;
 use traces::compile::compile_lent;
 use traces::family::Family;
+use traces::macrostate::Macrostate;
 
-// What is known after a trace: the states that the system may be in, whether it is convergent and, where it is, the minimal acceptance sets.
+// What is known after a trace: where it leads and, if that is convergent, the minimal acceptance sets.
 #[derive(Drop)]
 struct Known<'a> {
     trace: &'a [u8],
-    states: StateSet,
-    convergent: bool,
+    at: Macrostate,
     accepts: &'a [ActionSet],
 }
 
 impl fmt::Display for Known<'_> {
-    ghost output = { λ k. Some (trail_text k.trace.now k.states.bits k.convergent (bits_of k.accepts.now)) };
+    ghost output = { λ k. Some (trail_text k.trace.now k.at.states.bits k.at.convergent (bits_of k.accepts.now)) };
 
     fn fmt<W: fmt::Write>(&self, f: &mut fmt::Formatter<W>) -> fmt::Result {
         write!(f, "trace")?;
         write_numbers(f, self.trace.iter().map(|action| usize::from(*action)))?;
         write!(f, "\nstates")?;
-        write_numbers(f, self.states.members())?;
-        let convergent = if self.convergent { "yes" } else { "no" };
+        write_numbers(f, self.at.states.members())?;
+        let convergent = if self.at.convergent { "yes" } else { "no" };
         write!(f, "\nconvergent {convergent}\n")?;
         for set in self.accepts {
             write!(f, "accepts")?;
@@ -51,14 +51,14 @@ pub fn known_text<S: Lts>(heap: Global, system: &S, trace: &[u8]) -> Result<Stri
     compiled.acceptance_into(at, &mut family);
     let known = Known {
         trace,
-        states: at.states,
-        convergent: at.convergent,
+        at,
         accepts: family.members(),
     };
     known.to_string(heap)
 }
 
 // The same of a card file, or what is wrong with it.
+// Its match stands in `file_text` too: one function over a closure that shows the card would need a clause longer than both bodies.
 pub fn trace_text(heap: Global, bytes: &[u8], trace: &[u8]) -> Result<String, AllocError>
     ensures { IfOk result (λ s. string_bytes s ≡ trace_text bytes.now trace.now) }
 {

@@ -41,8 +41,8 @@ returns-clause-writes g c p k =
     let states = has_written_of_eq _ _ _ _ _ (ap numbers_text listed) (shown.2 label.plain) in
     let word = c.if-self.convergent.now in
     let line : HasWritten g.W.Write.write_str_gives c.write_numbers-2.new.f (codes "\nconvergent " ++ (word ++ newline)) c.write-3.new.self = search rules in
-    let same : codes "\nconvergent " ++ (word ++ newline) ≡ convergent_text known.convergent = elim c.if-self.branch [
-      then-self w ↦ ap (λ (bs : List ℕ). codes "\nconvergent " ++ (bs ++ newline)) (ap (λ s. s.now) w.convergent-is) ∙ ap convergent_text (sym w.if-self.true)
+    let same : codes "\nconvergent " ++ (word ++ newline) ≡ convergent_text known.at.convergent = elim c.if-self.branch [
+      | then-self w ↦ ap (λ (bs : List ℕ). codes "\nconvergent " ++ (bs ++ newline)) (ap (λ s. s.now) w.convergent-is) ∙ ap convergent_text (sym w.if-self.true)
       | else-self w ↦ ap (λ (bs : List ℕ). codes "\nconvergent " ++ (bs ++ newline)) (ap (λ s. s.now) w.convergent-is) ∙ ap convergent_text (sym w.if-self.false)
     ] in
     let convergent = has_written_of_eq _ _ _ _ _ same line in
