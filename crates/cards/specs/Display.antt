@@ -12,8 +12,8 @@ label_text (Action a) = decimal a
 label_text Silent = codes "h"
 
 -- a line, as from-label-to
-abbrev pub step_text : Line → List ℕ
-step_text l = decimal l.from ++ (codes "-" ++ (label_text l.label ++ (codes "-" ++ decimal l.to)))
+abbrev pub transition_text : Line → List ℕ
+transition_text l = decimal l.from ++ (codes "-" ++ (label_text l.label ++ (codes "-" ++ decimal l.to)))
 
 -- what is wrong with a word: the number of the reason, and the place
 abbrev pub word_fault_text : WordFault → List ℕ

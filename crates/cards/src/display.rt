@@ -1,6 +1,6 @@
 // Lines and faults as text.
 ghost use Rattle.std.specs.Prelude.{Some};
-ghost use Rattle.cards.specs.Display.{label_text, step_text, word_fault_text};
+ghost use Rattle.cards.specs.Display.{label_text, transition_text, word_fault_text};
 
 use crate::faults::{CardFault, WordFault};
 use crate::lines::{Label, Line};
@@ -21,7 +21,7 @@ impl fmt::Display for Label {
 
 // from-label-to
 impl fmt::Display for Line {
-    ghost output = { λ l. Some (step_text l) };
+    ghost output = { λ l. Some (transition_text l) };
 
     fn fmt<W: fmt::Write>(&self, f: &mut fmt::Formatter<W>) -> fmt::Result {
         let Line { from, label, to } = *self;

@@ -7,7 +7,7 @@ use Rattle.cards.specs.declared.lines.Role.TheVariants.{Card}
 use Rattle.cards.specs.declared.lines.Line.{Line}
 use Rattle.cards.specs.Bytes.{read_bytes}
 use Rattle.cards.specs.Contents.{Contents, written}
-use Rattle.cards.specs.Display.{step_text, word_fault_text}
+use Rattle.cards.specs.Display.{transition_text, word_fault_text}
 use Rattle.printing.specs.Numerals.{hex_word}
 
 abbrev pub newline : List ℕ
@@ -15,7 +15,7 @@ newline = 10 ∷ []
 
 -- a line, as from-label-to
 abbrev pub line_text : Line → List ℕ
-line_text l = step_text l ++ newline
+line_text l = transition_text l ++ newline
 
 abbrev pub lines_text : List Line → List ℕ
 lines_text ls = flat_map line_text ls

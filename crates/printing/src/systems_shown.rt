@@ -38,19 +38,14 @@ impl<S: Lts> fmt::Display for SystemShown<'_, S> {
         let states = system.count();
         let start = system.start();
         writeln!(f, "states {states} start {start}")?;
-        'visible: for state in 0..states {
-            'actions: for action in 0..32u8 {
+        for state in 0..states {
+            for action in 0..32u8 {
                 let targets = system.visible(state, usize::from(action)).members();
                 write_targets(f, state as u8, Label::Action(action), targets)?;
             }
         }
-        'silent: for state in 0..states {
-            write_targets(
-                f,
-                state as u8,
-                Label::Silent,
-                system.hidden(state).members(),
-            )?;
+        for from in 0..states {
+            write_targets(f, from as u8, Label::Silent, system.hidden(from).members())?;
         }
         Ok(())
     }
