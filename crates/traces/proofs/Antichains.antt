@@ -351,5 +351,6 @@ self_covered xs = covered_all xs xs (λ x h. member_covered x x xs h (within_sel
 pub same_families : (xs ys : List ℕ) → xs ≡ ys → (all_covered xs ys && all_covered ys xs) ≡ true
 same_families xs ys e = subst (λ (l : List ℕ). (all_covered xs l && all_covered l xs) ≡ true) e (and_from (all_covered xs xs) (all_covered xs xs) (self_covered xs) (self_covered xs))
 
-pub families_equal : (r : Bool) (xs ys : List ℕ) → antichain xs ≡ true → antichain ys ≡ true → r ≡ (all_covered xs ys && all_covered ys xs) → r ≡ true ↔ xs ≡ ys
-families_equal r xs ys a b e = ((λ t. families_same xs ys a b (sym e ∙ t)), (λ q. e ∙ same_families xs ys q))
+-- two antichains each of which covers the other are one
+pub families_equal : (xs ys : List ℕ) → antichain xs ≡ true → antichain ys ≡ true → (all_covered xs ys && all_covered ys xs) ≡ true ↔ xs ≡ ys
+families_equal xs ys a b = (families_same xs ys a b, same_families xs ys)
