@@ -5,7 +5,7 @@ use Rattle.std.specs.Int.Bits.{or_zero_l, or_zero_r}
 use Rattle.std.proofs.lemmas.Nat.{div-mul-add, mod-mul-add}
 use Rattle.std.proofs.lemmas.List.{take_more, get_or-set_same, get_or-set_other, get_or_read, get_or_past, get_or-replicate, length-replicate}
 use Rattle.std.proofs.lemmas.Bool.{cases_eq, cases_lt}
-use Rattle.lts.specs.declared.sets.StateSet.{StateSet}
+use Rattle.lts.specs.SetTypes.{StateSet}
 use Rattle.lts.specs.Sets.{inserted}
 use Rattle.lts.proofs.Membership.{or_assoc}
 use Rattle.cards.specs.declared.lines.Label.TheVariants.{Action}

@@ -2,7 +2,7 @@
 use Rattle.std.specs.Prelude.{ℕ, ◌+◌, ◌*◌, ◌^◌, Bool, true, cond, ◌&&◌, List, [], ◌∷◌, ◌==◌, nat_lt}
 use Rattle.lts.specs.Sets.{union}
 use Rattle.lts.specs.System.{System}
-use Rattle.lts.specs.declared.sets.StateSet.{StateSet}
+use Rattle.lts.specs.SetTypes.{StateSet}
 use Rattle.cards.specs.declared.lines.Label.{Label}
 use Rattle.cards.specs.declared.lines.Label.TheVariants.{Action, Silent}
 use Rattle.cards.specs.declared.lines.Line.{Line}

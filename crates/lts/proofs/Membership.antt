@@ -1,10 +1,10 @@
 -- The laws of membership. Assumes nothing.
-use Rattle.std.proofs.Common.{◌≡◌, ℕ, zero, suc, ◌+◌, ◌*◌, ◌/◌, ◌%◌, ◌^◌, ◌<◌, ◌≤◌, Bool, true, false, cond, T, ◌≢◌, ◌⊎◌, sym, refl, ap, ◌∙◌, subst, ap₂, inl, inr, suc-le-suc, zero-le, le_of_suc-le-suc, not-suc-le-zero, pow-suc, div-one, one-add, arith, pow_pos, pow_mono, shr-shr, eq-eqb, ne_eqb, eqb-true}
+use Rattle.std.proofs.Common.{◌≡◌, ℕ, zero, suc, ◌+◌, ◌*◌, ◌/◌, ◌%◌, ◌^◌, ◌<◌, ◌≤◌, Bool, true, false, not, cond, T, eqb, ◌≢◌, ◌⊎◌, sym, refl, ap, ◌∙◌, subst, ap₂, inl, inr, suc-le-suc, zero-le, le_of_suc-le-suc, not-suc-le-zero, pow-suc, div-one, one-add, arith, pow_pos, pow_mono, shr-shr, eq-eqb, ne_eqb, eqb-true}
 use native.Mathlib.Nat.{div_self, div-eq_of_lt, zero-div}
 use native.Mathlib.Decide.{ℕ_discrete}
 use lib.Arith.{bin_ind}
 use lib.Bits.{bit_and, bit_or, or_zero_l, or_zero_r, and_zero_l, or_shr, or_mod, and_shr, and_mod, or_comm, and_comm}
-use Rattle.lts.specs.Sets.{In, has, Subset, set_of}
+use Rattle.lts.specs.Sets.{In, has, Subset, complement, set_of}
 
 pub half : (s k : ℕ) → s / 2 ^ suc k ≡ s / 2 / 2 ^ k
 half s k = ap (λ (j : ℕ). s / 2 ^ j) (sym (one-add k)) ∙ sym (shr-shr s 1 k)
@@ -172,3 +172,19 @@ or_assoc a b c =
       | inl x ↦ or_left q (bit_or a b) c (or_left q a b x)
       | inr h' ↦ elim (in_or q b c h') [ inl y ↦ or_left q (bit_or a b) c (or_right q a b y) | inr z ↦ or_right q (bit_or a b) c z ]
     ])
+
+-- the complement of a set below 2 ^ n, digit by digit
+complement_digit : (s x y : ℕ) → x + (s / 2 + 1) ≡ y → cond (not (has 0 s)) 1 0 + 2 * x + (s + 1) ≡ 2 * y
+complement_digit s x y h = elim (ℕ_discrete (s % 2) 1) [
+  | yes e ↦ rw (eq-eqb (s / 2 ^ 0 % 2) 1 (in_zero s e)) (omega arith)
+  | no d ↦ rw (ne_eqb (s / 2 ^ 0 % 2) 1 (λ i. d (in_odd s i))) (omega arith)
+]
+
+pub complement_sum : (n s : ℕ) → s < 2 ^ n → complement n s + (s + 1) ≡ 2 ^ n
+unfolding set_of
+complement_sum zero s b = omega arith
+complement_sum (suc n) s b =
+    let p = pow-suc 2 n in
+    let shift : ◌≡◌ {A = ℕ → Bool} (λ q. not (has (suc q) s)) (λ q. not (has q (s / 2))) = λ i q. not (eqb (half s q i % 2) 1) in
+    let h = complement_sum n (s / 2) (omega arith) in
+    complement_digit s (set_of (λ q. not (has (suc q) s)) n) (2 ^ n) (ap (λ (f : ℕ → Bool). set_of f n + (s / 2 + 1)) shift ∙ h) ∙ (omega arith)

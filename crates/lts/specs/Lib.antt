@@ -3,3 +3,4 @@ pub mod System
 pub mod Traces
 pub mod Order
 pub mod Unions
+pub mod SetTypes

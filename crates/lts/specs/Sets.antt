@@ -1,5 +1,5 @@
 -- A finite set of numbers is a number: q is a member when bit q is set. Assumes nothing.
-use Rattle.std.specs.Prelude.{◌≡◌, ℕ, zero, suc, ◌+◌, ◌*◌, ◌/◌, ◌%◌, ◌^◌, ◌<◌, Bool, cond, ◌↔◌, List, [], ◌∷◌, ◌==◌, bit_or, nat_lt}
+use Rattle.std.specs.Prelude.{◌≡◌, ℕ, zero, suc, ◌+◌, ◌*◌, ◌/◌, ◌%◌, ◌^◌, ◌<◌, Bool, not, cond, ◌↔◌, List, [], ◌∷◌, ◌==◌, bit_and, bit_or, nat_lt}
 use mathlib.Core.List.{Memᴰ}
 
 -- q is a member of the set s
@@ -17,6 +17,13 @@ Subset s t = (q : ℕ) → In q s → In q t
 abbrev pub union : ℕ → ℕ → ℕ
 union s t = bit_or s t
 
+abbrev pub intersection : ℕ → ℕ → ℕ
+intersection s t = bit_and s t
+
+-- every member of s is one of t, as a test
+abbrev pub within : ℕ → ℕ → Bool
+within s t = bit_and s t == s
+
 -- s with q, where q is below w, the width of the set's type; otherwise s
 abbrev pub inserted : ℕ → ℕ → ℕ → ℕ
 inserted w q s = cond (nat_lt q w) (union s (2 ^ q)) s
@@ -25,6 +32,10 @@ inserted w q s = cond (nat_lt q w) (union s (2 ^ q)) s
 unfoldable pub set_of : (ℕ → Bool) → ℕ → ℕ
 set_of f zero = 0
 set_of f (suc n) = cond (f 0) 1 0 + 2 * set_of (λ q. f (suc q)) n
+
+-- the numbers below w that are no members of s
+abbrev pub complement : ℕ → ℕ → ℕ
+complement w s = set_of (λ q. not (has q s)) w
 
 -- the members of s among the n numbers from k on, in rising order
 unfoldable pub members_from : ℕ → ℕ → ℕ → List ℕ

@@ -4,3 +4,4 @@
 pub mod members;
 pub mod sets;
 pub mod system;
+pub mod word;

@@ -1,154 +1,118 @@
 // Sets of states and of actions, each one machine word.
 ghost use Rattle.std.specs.Prelude.{◌≡◌, ℕ, ◌≤◌, Bool, not, length, ◌==◌};
-ghost use Rattle.lts.specs.Sets.{has, union as union_of, inserted, Lists, members as members_of};
+ghost use Rattle.lts.specs.Sets.{has, union as union_of, intersection as intersection_of, complement as complement_of, within, inserted, Lists, members as members_of};
 
 use crate::members::Members;
+use crate::word::Word;
 
-// A set of states 0 to 63; bit q stands for state q.
+// A set of numbers below the width of a word; bit k stands for the number k.
 #[derive(Clone, Copy, PartialEq, Eq, Debug)]
-pub struct StateSet {
-    bits: u64,
+pub struct Set<W> {
+    bits: W,
 }
 
-// A set of actions 0 to 31; bit a stands for action a.
-#[derive(Clone, Copy, PartialEq, Eq, Debug)]
-pub struct ActionSet {
-    bits: u32,
-}
+// A set of states 0 to 63.
+pub type StateSet = Set<u64>;
 
-// Whether bit q is set; none above 63 is.
-fn has_bit(bits: u64, q: usize) -> bool
-    ensures { result ≡ has q bits }
-{
-    q < 64 && bits >> q & 1 == 1
-}
+// A set of actions 0 to 31.
+pub type ActionSet = Set<u32>;
 
-impl StateSet {
-    pub fn empty() -> StateSet
-        ensures { result.bits ≡ 0 }
+impl<W: Word> Set<W> {
+    pub fn empty() -> Set<W>
+        ensures { W.number result.bits ≡ 0 }
     {
-        StateSet { bits: 0 }
+        Set {
+            bits: W::narrowed(0),
+        }
     }
 
-    pub fn from_bits(bits: u64) -> StateSet
+    pub fn from_bits(bits: W) -> Set<W>
         ensures { result.bits ≡ bits }
     {
-        StateSet { bits }
+        Set { bits }
     }
 
-    pub fn bits(self) -> u64
+    pub fn bits(self) -> W
         ensures { result ≡ self.bits }
     {
         self.bits
     }
 
     pub fn is_empty(self) -> bool
-        ensures { result ≡ (self.bits == 0) }
+        ensures { result ≡ (W.number self.bits == 0) }
     {
-        self.bits == 0
+        self.bits.widened() == 0
     }
 
-    // How many states are members.
+    // How many members it has.
     pub fn len(self) -> usize
-        ensures value { result ≡ length (members_of self.bits) }
-        ensures bound { result ≤ 64 }
+        ensures value { result ≡ length (members_of (W.number self.bits)) }
+        ensures bound { result ≤ W.WIDTH }
     {
-        self.bits.count_ones() as usize
+        self.bits.widened().count_ones() as usize
     }
 
-    // No number above 63 is a member.
-    pub fn contains(self, state: usize) -> bool
-        ensures { result ≡ has state self.bits }
+    // No number from the width on is a member.
+    pub fn contains(self, number: usize) -> bool
+        ensures { result ≡ has number (W.number self.bits) }
     {
-        has_bit(self.bits, state)
+        let bits = self.bits.widened();
+        number < W::WIDTH && bits >> number & 1 == 1
     }
 
-    pub fn union(self, other: StateSet) -> StateSet
-        ensures { result.bits ≡ union_of self.bits other.bits }
+    #[tactic(auto, using(std::proofs::lemmas::Nat::or_lt))]
+    pub fn union(self, other: Set<W>) -> Set<W>
+        ensures { W.number result.bits ≡ union_of (W.number self.bits) (W.number other.bits) }
     {
-        StateSet {
-            bits: self.bits | other.bits,
+        Set {
+            bits: W::narrowed(self.bits.widened() | other.bits.widened()),
         }
     }
 
-    // The set with one state more; a number above 63 leaves it as it is. Tells whether the set has grown.
-    pub fn insert(&mut self, state: usize) -> bool
-        ensures after { self.new.bits ≡ inserted 64 state self.old.bits }
-        ensures grown { result ≡ not (self.new.bits == self.old.bits) }
+    pub fn intersection(self, other: Set<W>) -> Set<W>
+        ensures { W.number result.bits ≡ intersection_of (W.number self.bits) (W.number other.bits) }
     {
-        let before = self.bits;
-        if state < 64 {
-            self.bits |= 1 << state;
+        Set {
+            bits: W::narrowed(self.bits.widened() & other.bits.widened()),
         }
-        self.bits != before
+    }
+
+    // The numbers below the width that are no members.
+    pub fn complement(self) -> Set<W>
+        ensures { W.number result.bits ≡ complement_of W.WIDTH (W.number self.bits) }
+    {
+        Set {
+            bits: W::narrowed(W::ALL - self.bits.widened()),
+        }
+    }
+
+    // Whether every member is one of the other set.
+    pub fn is_within(self, other: Set<W>) -> bool
+        ensures { result ≡ within (W.number self.bits) (W.number other.bits) }
+    {
+        let bits = self.bits.widened();
+        bits & other.bits.widened() == bits
+    }
+
+    // The set with one number more; one from the width on leaves it as it is. Tells whether the set has grown.
+    pub fn insert(&mut self, number: usize) -> bool
+        ensures after { W.number self.new.bits ≡ inserted W.WIDTH number (W.number self.old.bits) }
+        ensures grown { result ≡ not (W.number self.new.bits == W.number self.old.bits) }
+    {
+        let before = self.bits.widened();
+        if number >= W::WIDTH {
+            return false;
+        }
+        let after = before | 1 << number;
+        self.bits = W::narrowed(after);
+        after != before
     }
 
     // The members, in rising order.
     pub fn members(self) -> Members
-        ensures value { result.rest ≡ self.bits }
-        ensures listed { Lists self.bits (members_of result.rest) }
+        ensures value { result.rest ≡ W.number self.bits }
+        ensures listed { Lists (W.number self.bits) (members_of result.rest) }
     {
-        Members::of(self.bits)
-    }
-}
-
-impl ActionSet {
-    pub fn empty() -> ActionSet
-        ensures { result.bits ≡ 0 }
-    {
-        ActionSet { bits: 0 }
-    }
-
-    pub fn from_bits(bits: u32) -> ActionSet
-        ensures { result.bits ≡ bits }
-    {
-        ActionSet { bits }
-    }
-
-    pub fn bits(self) -> u32
-        ensures { result ≡ self.bits }
-    {
-        self.bits
-    }
-
-    pub fn is_empty(self) -> bool
-        ensures { result ≡ (self.bits == 0) }
-    {
-        self.bits == 0
-    }
-
-    // No number above 31 is a member.
-    pub fn contains(self, action: usize) -> bool
-        ensures { result ≡ has action self.bits }
-    {
-        has_bit(u64::from(self.bits), action)
-    }
-
-    pub fn union(self, other: ActionSet) -> ActionSet
-        ensures { result.bits ≡ union_of self.bits other.bits }
-    {
-        ActionSet {
-            bits: self.bits | other.bits,
-        }
-    }
-
-    // The set with one action more; a number above 31 leaves it as it is. Tells whether the set has grown.
-    pub fn insert(&mut self, action: usize) -> bool
-        ensures after { self.new.bits ≡ inserted 32 action self.old.bits }
-        ensures grown { result ≡ not (self.new.bits == self.old.bits) }
-    {
-        let before = self.bits;
-        if action < 32 {
-            self.bits |= 1 << action;
-        }
-        self.bits != before
-    }
-
-    // The members, in rising order.
-    pub fn members(self) -> Members
-        ensures value { result.rest ≡ self.bits }
-        ensures listed { Lists self.bits (members_of result.rest) }
-    {
-        Members::of(u64::from(self.bits))
+        Members::of(self.bits.widened())
     }
 }

@@ -3,7 +3,7 @@ use Rattle.std.proofs.Common.{◌≡◌, ℕ, ◌+◌, ◌<◌, ◌≤◌, false
 use Rattle.std.proofs.lemmas.List.{drop_all, drop_more}
 use Rattle.lts.specs.Sets.{members}
 use Rattle.traces.specs.Offered.{bits_of}
-use Rattle.lts.specs.declared.sets.ActionSet.{ActionSet}
+use Rattle.lts.specs.SetTypes.{ActionSet}
 use Rattle.printing.specs.Shown.{newline}
 use Rattle.printing.specs.Trails.{blanked_text, numbers_text, accepts_text}
 

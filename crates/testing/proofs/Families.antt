@@ -4,7 +4,7 @@ use native.Mathlib.Decide.{dec_lt}
 use Rattle.lts.specs.Sets.{Subset, set_of}
 use Rattle.lts.specs.System.{System, Lawful}
 use Rattle.lts.specs.Traces.{Minimal}
-use Rattle.lts.specs.declared.sets.ActionSet.{ActionSet}
+use Rattle.lts.specs.SetTypes.{ActionSet}
 use Rattle.lts.proofs.Membership.{same_members}
 use Rattle.testing.specs.declared.ground.Side.{Side}
 use Rattle.testing.specs.declared.ground.Side.TheVariants.{Left, Right}

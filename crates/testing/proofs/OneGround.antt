@@ -2,7 +2,7 @@
 use Rattle.std.proofs.Common.{◌≡◌, ℕ, List, sym, refl, ap, ◌∙◌, inl, inr, arith}
 use Rattle.lts.specs.System.{System}
 use Rattle.lts.specs.Traces.{CanDo, Convergent}
-use Rattle.lts.specs.declared.sets.ActionSet.{ActionSet}
+use Rattle.lts.specs.SetTypes.{ActionSet}
 use Rattle.lts.proofs.Order.{before_cases}
 use Rattle.testing.specs.declared.ground.Side.{Side}
 use Rattle.testing.specs.declared.ground.Side.TheVariants.{Left, Right}

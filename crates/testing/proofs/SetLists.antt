@@ -3,7 +3,7 @@ use Rattle.std.proofs.Common.{◌≡◌, ℕ, zero, suc, ◌+◌, ◌*◌, ◌/�
 use native.Mathlib.Decide.{ℕ_discrete}
 use Rattle.std.proofs.lemmas.List.{drop_more, drop_all}
 use Rattle.lts.specs.Sets.{has, set_of}
-use Rattle.lts.specs.declared.sets.ActionSet.{ActionSet}
+use Rattle.lts.specs.SetTypes.{ActionSet}
 use Rattle.lts.proofs.Membership.{half, in_zero, in_odd}
 use Rattle.traces.specs.Families.{within, covered}
 use Rattle.testing.specs.Rule.{first_bare}

@@ -4,7 +4,7 @@ use Rattle.lts.specs.System.{System, Lawful}
 use Rattle.lts.specs.Traces.{CanDo, Convergent}
 use Rattle.traces.specs.Macrostates.{macrostate}
 use Rattle.traces.specs.Families.{minimal}
-use Rattle.lts.specs.declared.sets.ActionSet.{ActionSet}
+use Rattle.lts.specs.SetTypes.{ActionSet}
 use Rattle.testing.specs.declared.ground.Side.{Side}
 use Rattle.testing.specs.declared.ground.Side.TheVariants.{Left, Right}
 use Rattle.testing.specs.declared.ground.Ground.{Ground}

@@ -7,7 +7,7 @@ use Rattle.lts.specs.Order.{Actions}
 use Rattle.testing.specs.declared.ground.Side.{Side}
 use Rattle.testing.specs.declared.ground.Ground.{Ground}
 use Rattle.testing.specs.declared.ground.Ground.TheVariants.{Offer}
-use Rattle.lts.specs.declared.sets.ActionSet.{ActionSet}
+use Rattle.lts.specs.SetTypes.{ActionSet}
 use Rattle.testing.specs.Testing.{May, Must, Alike}
 use Rattle.testing.specs.Distinguish.{reach_test, settle_test, offer_test, test_of, Passes}
 use Rattle.testing.specs.Splits.{BothConvergent, Splits, NoSplit, FirstSplit, passer, non_passer}

@@ -11,7 +11,7 @@ use Rattle.std.proofs.lemmas.Bool.{cond-true, cond-false, cond_both, ltb-false}
 use Rattle.traces.specs.Families.{within, covered, all_covered, without, placed, offered}
 use Rattle.traces.specs.Offered.{bits_of, free}
 use Rattle.traces.specs.Tables.{offer_at}
-use Rattle.lts.specs.declared.sets.ActionSet.{ActionSet}
+use Rattle.lts.specs.SetTypes.{ActionSet}
 use Rattle.traces.specs.declared.family.Family.{Family}
 use Rattle.traces.proofs.Antichains.{families_equal}
 use Rattle.traces.proofs.Marks.{same_test}

@@ -2,7 +2,7 @@
 use Rattle.std.specs.Prelude.{◌≡◌, ℕ, Bool, not, List, map}
 use Rattle.lts.specs.Sets.{Subset}
 use Rattle.traces.specs.Families.{Member, within}
-use Rattle.lts.specs.declared.sets.ActionSet.{ActionSet}
+use Rattle.lts.specs.SetTypes.{ActionSet}
 
 abbrev pub bits_of : List ActionSet → List ℕ
 bits_of l = map (λ s. s.bits) l

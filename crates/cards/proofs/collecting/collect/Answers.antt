@@ -1,5 +1,5 @@
 use Rattle.std.proofs.Common.{◌<◌, ◌≤◌, length, None, vec_items, vec_capacity, sym, ap, ◌∙◌, append-nil, arith}
-use Rattle.lts.specs.declared.sets.StateSet.{StateSet}
+use Rattle.lts.specs.SetTypes.{StateSet}
 use Rattle.cards.specs.Contents.{with_all}
 use Rattle.cards.specs.Reading.{lines_in}
 use Rattle.cards.proofs.Collected.{line_room, lines_on, passing_on, lines_all, passing_all}

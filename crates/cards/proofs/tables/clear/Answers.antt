@@ -1,7 +1,7 @@
 use Rattle.std.proofs.Common.{ap, inl, inr, arith}
 use Rattle.std.proofs.lemmas.List.{get_or_past}
 use Rattle.std.proofs.lemmas.Bool.{cases_lt}
-use Rattle.lts.specs.declared.sets.StateSet.{StateSet}
+use Rattle.lts.specs.SetTypes.{StateSet}
 use Rattle.cards.specs.Lines.{no_states}
 use Rattle.cards.proofs.tables.clear.Goals as goal
 

@@ -3,7 +3,7 @@ use Rattle.lts.specs.Sets.{members}
 use Rattle.traces.specs.Offered.{bits_of}
 use Rattle.traces.specs.Compiled.{system_of}
 use Rattle.traces.specs.Shown.{shown}
-use Rattle.lts.specs.declared.sets.ActionSet.{ActionSet}
+use Rattle.lts.specs.SetTypes.{ActionSet}
 use Rattle.printing.specs.Trails.{numbers_text, accepts_text}
 use Rattle.printing.proofs.Known.{known, pieces}
 use Rattle.printing.proofs.traces_shown.known_text.Goals as goal

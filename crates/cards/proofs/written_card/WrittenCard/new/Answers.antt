@@ -1,4 +1,4 @@
-use Rattle.std.proofs.Common.{List, map, ap, arith}
+use Rattle.std.proofs.Common.{ℕ, List, map, ap, arith}
 use Rattle.cards.specs.declared.lines.Line.{Line}
 use Rattle.cards.specs.Lines.{lines_fit, rising}
 use Rattle.cards.specs.Words.{line_word}
@@ -16,5 +16,5 @@ invariant_of-result c =
       ordered = ap (λ (ls : List Line). rising 0 (map line_word ls)) m.items;
       few = (omega (arith, m.len), m.capacity);
       wide = t.len;
-      tabled = tabled_none 2112 _ _ _ (t.items_if_clones_equal (λ y e. e)) c.empty.ensures m.items;
+      tabled = tabled_none 2112 _ _ _ (t.items_if_clones_equal (λ y e. ap (λ (b : ℕ). record { bits = b }) e)) c.empty.ensures m.items;
     }
