@@ -3,11 +3,11 @@ use Rattle.std.proofs.Common.{◌≡◌, ℕ, zero, suc, ◌<◌, Bool, true, fa
 use native.Mathlib.Decide.{ℕ_discrete}
 use lib.Bits.{bit_and, and_self}
 use Rattle.std.proofs.lemmas.Bool.{and_parts, and_from, or_cases, or_parts, or_left, or_right, both_ways, not-true, not_from_false, cond_both, ltb-true, ltb-false, lt-ltb, eqb-true, eq-eqb, cases_Bool}
-use Rattle.lts.specs.Sets.{In, has, Subset, Above, Ascending}
+use Rattle.lts.specs.Sets.{In, has, Subset, within, Above, Ascending}
 use Rattle.lts.specs.System.{System, Lawful}
 use Rattle.lts.specs.Traces.{Acceptance, Minimal, offer}
 use Rattle.traces.specs.Macrostates.{macrostate}
-use Rattle.traces.specs.Families.{Member, within, covered, all_covered, follows, followed, antichain, without, placed, offered, minimal_below, minimal}
+use Rattle.traces.specs.Families.{Member, covered, all_covered, follows, followed, antichain, without, placed, offered, minimal_below, minimal}
 use Rattle.traces.specs.Offered.{Incomparable}
 use Rattle.lts.proofs.Membership.{same_members, in_and, and_in, has_in, in_has}
 use Rattle.traces.proofs.TraceStates.{states_after, after_below}

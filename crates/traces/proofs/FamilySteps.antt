@@ -8,7 +8,8 @@ use Rattle.std.specs.Str.{bytes_eq}
 use Rattle.std.proofs.lemmas.Slice.Eq.{bytes_eq-Decides}
 use Rattle.std.proofs.lemmas.List.Recursion.{same_from_clauses}
 use Rattle.std.proofs.lemmas.Bool.{cond-true, cond-false, cond_both, ltb-false}
-use Rattle.traces.specs.Families.{within, covered, all_covered, without, placed, offered}
+use Rattle.lts.specs.Sets.{within}
+use Rattle.traces.specs.Families.{covered, all_covered, without, placed, offered}
 use Rattle.traces.specs.Offered.{bits_of, free}
 use Rattle.traces.specs.Tables.{offer_at}
 use Rattle.lts.specs.SetTypes.{ActionSet}

@@ -1,6 +1,6 @@
 // Families of sets of actions in which no set contains another.
 ghost use Rattle.std.specs.Prelude.{◌≡◌, ℕ, ◌+◌, ◌<◌, ◌≤◌, Bool, true, ◌&&◌, ◌↔◌, [], ◌∷◌, ◌++◌, length, take, drop, IfOk, is_ok, if◌then◌else◌, vec_len, vec_capacity, nat_lt};
-ghost use Rattle.traces.specs.Families.{within as within_of, covered as covered_by, all_covered, antichain, without, placed, offered};
+ghost use Rattle.traces.specs.Families.{covered as covered_by, all_covered, antichain, without, placed, offered};
 ghost use Rattle.lts.specs.Sets.{Ascending};
 ghost use Rattle.traces.specs.Offered.{bits_of, Incomparable};
 
@@ -20,18 +20,11 @@ pub struct Family {
 #[derive(Clone, Copy, PartialEq, Eq, Debug)]
 pub struct Full;
 
-// Whether every action of the first set is in the second.
-fn is_within(inner: ActionSet, outer: ActionSet) -> bool
-    ensures { result ≡ within_of inner.bits outer.bits }
-{
-    inner.bits() & outer.bits() == inner.bits()
-}
-
 // Whether the offer contains one of the sets.
-fn is_covered(offer: ActionSet, sets: &[ActionSet]) -> bool
+pub fn is_covered(offer: ActionSet, sets: &[ActionSet]) -> bool
     ensures { result ≡ covered_by offer.bits (bits_of sets.now) }
 {
-    sets.iter().any(|set| is_within(*set, offer))
+    sets.iter().any(|set| set.is_within(offer))
 }
 
 // Enters an offer among fewer than 64 sets.
@@ -45,7 +38,7 @@ fn enter(sets: &mut Vec<ActionSet>, offer: ActionSet)
     if is_covered(offer, sets) {
         return;
     }
-    sets.retain(|set| !is_within(offer, *set));
+    sets.retain(|set| !offer.is_within(*set));
     let place = sets
         .iter()
         .position(|set| offer.bits() < set.bits())

@@ -2,7 +2,7 @@ use Rattle.std.proofs.Common.{rules}
 use borrow.Author.Tests.{tests}
 use Rattle.std.proofs.lemmas.Iterator.{YieldsList-from_slice}
 use Rattle.std.proofs.lemmas.Iterator.Search.{any_from_yields_List}
-use Rattle.traces.specs.Families.{within}
+use Rattle.lts.specs.Sets.{within}
 use Rattle.traces.proofs.FamilySteps.{covered_any}
 use Rattle.traces.proofs.family.is_covered.Goals as goal
 
