@@ -1,6 +1,6 @@
 -- Loops over the sets of a family, step by step. Assumes nothing.
-use Rattle.std.proofs.Common.{◌≡◌, ℕ, suc, ◌+◌, ◌<◌, ◌≤◌, Bool, true, false, cond, not, ◌&&◌, ◌||◌, nat_lt, eqb, ◌↔◌, Option, Some, None, unwrap_or, List, [], ◌∷◌, ◌++◌, length, take, drop, filter, vec_items, sym, refl, ap, ◌∙◌, append_assoc, arith}
-use Rattle.std.specs.List.{list_any, list_all, position_or_len}
+use Rattle.std.proofs.Common.{◌≡◌, ℕ, suc, ◌+◌, Bool, true, false, cond, not, ◌&&◌, ◌||◌, nat_lt, eqb, ◌↔◌, Option, Some, None, unwrap_or, List, [], ◌∷◌, ◌++◌, length, take, drop, filter, vec_items, sym, refl, ap, ◌∙◌, arith}
+use Rattle.std.specs.List.{list_any, position_or_len}
 use Rattle.std.proofs.lemmas.List.{drop-map, map-append, take-map}
 use Rattle.std.proofs.lemmas.List.Sums.{prefix_len-le-length}
 use Rattle.std.specs.Cmp.Lexicographic.{pointwise}
@@ -11,7 +11,6 @@ use Rattle.std.proofs.lemmas.Bool.{cond-true, cond-false, cond_both, ltb-false}
 use Rattle.lts.specs.Sets.{within}
 use Rattle.traces.specs.Families.{covered, all_covered, without, placed, offered}
 use Rattle.traces.specs.Offered.{bits_of, free}
-use Rattle.traces.specs.Tables.{offer_at}
 use Rattle.lts.specs.SetTypes.{ActionSet}
 use Rattle.traces.specs.declared.family.Family.{Family}
 use Rattle.traces.proofs.Antichains.{families_equal}
