@@ -1,13 +1,13 @@
 -- Ascending families in which no set contains another, and the minimal acceptance sets. Assumes nothing.
-use Rattle.std.proofs.Common.{◌≡◌, ℕ, zero, suc, ◌<◌, Bool, true, false, not, ◌&&◌, eqb, ltb, ◌≢◌, ◌⊎◌, ◌↔◌, List, [], ◌∷◌, sym, refl, ap, ◌∙◌, subst, ap₂, inl, inr, not-suc-le-zero, arith}
+use Rattle.std.proofs.Common.{◌≡◌, ℕ, zero, suc, ◌<◌, true, false, not, ◌&&◌, eqb, ltb, ◌≢◌, ◌⊎◌, ◌↔◌, List, [], ◌∷◌, sym, refl, ap, ◌∙◌, subst, ap₂, inl, inr, not-suc-le-zero, arith}
 use native.Mathlib.Decide.{ℕ_discrete}
 use lib.Bits.{bit_and, and_self}
 use Rattle.std.proofs.lemmas.Bool.{and_parts, and_from, or_cases, or_parts, or_left, or_right, both_ways, not-true, not_from_false, cond_both, ltb-true, ltb-false, lt-ltb, eqb-true, eq-eqb, cases_Bool}
-use Rattle.lts.specs.Sets.{In, has, Subset, Above, Ascending}
+use Rattle.lts.specs.Sets.{In, has, Subset, within, Above, Ascending}
 use Rattle.lts.specs.System.{System, Lawful}
 use Rattle.lts.specs.Traces.{Acceptance, Minimal, offer}
 use Rattle.traces.specs.Macrostates.{macrostate}
-use Rattle.traces.specs.Families.{Member, within, covered, all_covered, follows, followed, antichain, without, placed, offered, minimal_below, minimal}
+use Rattle.traces.specs.Families.{Member, covered, all_covered, follows, followed, antichain, without, placed, offered, minimal_below, minimal}
 use Rattle.traces.specs.Offered.{Incomparable}
 use Rattle.lts.proofs.Membership.{same_members, in_and, and_in, has_in, in_has}
 use Rattle.traces.proofs.TraceStates.{states_after, after_below}
@@ -351,5 +351,6 @@ self_covered xs = covered_all xs xs (λ x h. member_covered x x xs h (within_sel
 pub same_families : (xs ys : List ℕ) → xs ≡ ys → (all_covered xs ys && all_covered ys xs) ≡ true
 same_families xs ys e = subst (λ (l : List ℕ). (all_covered xs l && all_covered l xs) ≡ true) e (and_from (all_covered xs xs) (all_covered xs xs) (self_covered xs) (self_covered xs))
 
-pub families_equal : (r : Bool) (xs ys : List ℕ) → antichain xs ≡ true → antichain ys ≡ true → r ≡ (all_covered xs ys && all_covered ys xs) → r ≡ true ↔ xs ≡ ys
-families_equal r xs ys a b e = ((λ t. families_same xs ys a b (sym e ∙ t)), (λ q. e ∙ same_families xs ys q))
+-- two antichains each of which covers the other are one
+pub families_equal : (xs ys : List ℕ) → antichain xs ≡ true → antichain ys ≡ true → (all_covered xs ys && all_covered ys xs) ≡ true ↔ xs ≡ ys
+families_equal xs ys a b = (families_same xs ys a b, same_families xs ys)

@@ -1,72 +1,50 @@
 -- Loops over the sets of a family, step by step. Assumes nothing.
-use Rattle.std.proofs.Common.{◌≡◌, ℕ, ◌+◌, ◌<◌, ◌≤◌, Bool, true, false, cond, not, ◌&&◌, ◌||◌, ltb, List, [], ◌∷◌, ◌++◌, length, take, drop, filter, sym, refl, ap, ◌∙◌, append_assoc}
-use Rattle.std.proofs.lemmas.List.{drop_all, drop_more, drop-map, map-append, map_more, take-map}
-use Rattle.std.proofs.lemmas.Bool.{cond-true, cond-false, lt-ltb, le-ltb}
-use Rattle.traces.specs.Families.{within, covered, all_covered, without, placed, offered}
+use Rattle.std.proofs.Common.{◌≡◌, ℕ, suc, ◌+◌, Bool, true, false, cond, not, ◌&&◌, ◌||◌, nat_lt, eqb, ◌↔◌, Option, Some, None, unwrap_or, List, [], ◌∷◌, ◌++◌, length, take, drop, filter, vec_items, sym, refl, ap, ◌∙◌, arith}
+use Rattle.std.specs.List.{list_any, position_or_len}
+use Rattle.std.proofs.lemmas.List.{drop-map, map-append, take-map}
+use Rattle.std.proofs.lemmas.List.Sums.{prefix_len-le-length}
+use Rattle.std.specs.Cmp.Lexicographic.{pointwise}
+use Rattle.std.specs.Str.{bytes_eq}
+use Rattle.std.proofs.lemmas.Slice.Eq.{bytes_eq-Decides}
+use Rattle.std.proofs.lemmas.List.Recursion.{same_from_clauses}
+use Rattle.std.proofs.lemmas.Bool.{cond-true, cond-false, cond_both, ltb-false}
+use Rattle.lts.specs.Sets.{within}
+use Rattle.traces.specs.Families.{covered, all_covered, without, placed, offered}
 use Rattle.traces.specs.Offered.{bits_of, free}
-use Rattle.traces.specs.Tables.{offer_at}
 use Rattle.lts.specs.SetTypes.{ActionSet}
+use Rattle.traces.specs.declared.family.Family.{Family}
+use Rattle.traces.proofs.Antichains.{families_equal}
+use Rattle.traces.proofs.Marks.{same_test}
 
--- the sets from place i on
-rest_more : (l : List ActionSet) (i : ℕ) → i < length l → drop i (bits_of l) ≡ offer_at l i ∷ drop (i + 1) (bits_of l)
-rest_more l i b =
-    drop-map (λ s. s.bits) i l
-    ∙ (ap bits_of (drop_more l i (record { bits = 0 }) b) ∙ ap (λ (xs : List ℕ). offer_at l i ∷ xs) (sym (drop-map (λ s. s.bits) (i + 1) l)))
+-- the words of a family as those of the list of its sets
+pub covered_any : (x : ℕ) (l : List ActionSet) → covered x (bits_of l) ≡ list_any (λ s. within s.bits x) l
+unfolding covered
+covered_any x l =
+    same_from_clauses (λ (l : List ActionSet). covered x (bits_of l)) (list_any (λ s. within s.bits x)) (λ s b. within s.bits x || b) refl (λ _ _. refl) (λ _ _. refl) l
 
-rest_none : (l : List ActionSet) (i : ℕ) → length l ≤ i → drop i (bits_of l) ≡ []
-rest_none l i b = drop-map (λ s. s.bits) i l ∙ ap bits_of (drop_all i l b)
+abbrev pub Placed : ℕ → List ActionSet → ℕ → Type 0
+Placed x l i = placed x (bits_of l) ≡ take i (bits_of l) ++ x ∷ drop i (bits_of l)
 
--- the sets before place i
-front_more : (l : List ActionSet) (i : ℕ) → i < length l → take (i + 1) (bits_of l) ≡ take i (bits_of l) ++ offer_at l i ∷ []
-front_more l i b =
-    take-map (λ s. s.bits) (i + 1) l
-    ∙ (map_more (λ s. s.bits) l i (record { bits = 0 }) b ∙ ap (λ (xs : List ℕ). xs ++ offer_at l i ∷ []) (sym (take-map (λ s. s.bits) i l)))
+pub placed_first : (x : ℕ) (l : List ActionSet) → Placed x l (position_or_len (λ s. nat_lt x s.bits) l)
+unfolding placed
+placed_first x [] = refl
+placed_first x (s ∷ l) = pick (nat_lt x s.bits) refl (placed_first x l)
+  where
+    pick : (b : Bool) → nat_lt x s.bits ≡ b → Placed x l (position_or_len (λ s. nat_lt x s.bits) l) → Placed x (s ∷ l) (position_or_len (λ s. nat_lt x s.bits) (s ∷ l))
+    pick true e p = rw e refl
+    pick false e p =
+        let n = position_or_len (λ s. nat_lt x s.bits) l in
+        let next : 1 + n ≡ suc n = omega arith in
+        rw (e, next) (ap (λ (xs : List ℕ). s.bits ∷ xs) p)
 
-module _ (x : ℕ) (l : List ActionSet) where
-  pub covered_more : (i : ℕ) → i < length l → covered x (drop i (bits_of l)) ≡ (within (offer_at l i) x || covered x (drop (i + 1) (bits_of l)))
-  unfolding covered
-  covered_more i b = ap (covered x) (rest_more l i b)
-
-  pub covered_none : (i : ℕ) → length l ≤ i → covered x (drop i (bits_of l)) ≡ false
-  unfolding covered
-  covered_none i b = ap (covered x) (rest_none l i b)
-
-  -- the sets before place i are not above x
-  abbrev pub Passed : ℕ → Type 0
-  Passed i = placed x (bits_of l) ≡ take i (bits_of l) ++ placed x (drop i (bits_of l))
-
-  abbrev pub Placed : ℕ → Type 0
-  Placed i = placed x (bits_of l) ≡ take i (bits_of l) ++ x ∷ drop i (bits_of l)
-
-  pub passed_more : (i : ℕ) → i < length l → offer_at l i ≤ x → Passed i → Passed (i + 1)
-  unfolding placed
-  passed_more i b q p =
-      let here : placed x (drop i (bits_of l)) ≡ offer_at l i ∷ placed x (drop (i + 1) (bits_of l)) =
-      ap (placed x) (rest_more l i b) ∙ cond-false (ltb x (offer_at l i)) _ _ (le-ltb x (offer_at l i) q) in
-      p ∙ (ap (λ (xs : List ℕ). take i (bits_of l) ++ xs) here
-      ∙ (sym (append_assoc (take i (bits_of l)) (offer_at l i ∷ []) (placed x (drop (i + 1) (bits_of l))))
-      ∙ ap (λ (xs : List ℕ). xs ++ placed x (drop (i + 1) (bits_of l))) (sym (front_more l i b))))
-
-  pub passed_here : (i : ℕ) → i < length l → x < offer_at l i → Passed i → Placed i
-  unfolding placed
-  passed_here i b q p =
-      let rest = rest_more l i b in
-      p ∙ ap (λ (xs : List ℕ). take i (bits_of l) ++ xs) (ap (placed x) rest ∙ (cond-true (ltb x (offer_at l i)) _ _ (lt-ltb x (offer_at l i) q) ∙ ap (λ (xs : List ℕ). x ∷ xs) (sym rest)))
-
-  pub passed_all : (i : ℕ) → length l ≤ i → Passed i → Placed i
-  unfolding placed
-  passed_all i b p =
-      let none = rest_none l i b in
-      p ∙ ap (λ (xs : List ℕ). take i (bits_of l) ++ xs) (ap (placed x) none ∙ ap (λ (xs : List ℕ). x ∷ xs) (sym none))
-
-pub all_more : (ys : List ℕ) (l : List ActionSet) (i : ℕ) → i < length l
-    → all_covered (drop i (bits_of l)) ys ≡ (covered (offer_at l i) ys && all_covered (drop (i + 1) (bits_of l)) ys)
-unfolding all_covered
-all_more ys l i b = ap (λ (xs : List ℕ). all_covered xs ys) (rest_more l i b)
-
-pub all_none : (ys : List ℕ) (l : List ActionSet) (i : ℕ) → length l ≤ i → all_covered (drop i (bits_of l)) ys ≡ true
-unfolding all_covered
-all_none ys l i b = ap (λ (xs : List ℕ). all_covered xs ys) (rest_none l i b)
+-- where `position` and then `unwrap_or` of the length come
+pub first_or_len : {X : Type 0} (p : X → Bool) (l : List X) (o : Option ℕ) (n : ℕ) → o ≡ cond (nat_lt (position_or_len p l) (length l)) (Some (position_or_len p l)) None
+    → n ≡ length l → unwrap_or o n ≡ position_or_len p l
+first_or_len p l o n e q =
+    let i = position_or_len p l in
+    rw (e, q) (cond_both (nat_lt i (length l)) (Some i) None (λ (o : Option ℕ). unwrap_or o (length l) ≡ i)
+    (λ t. refl)
+    (λ f. omega (arith, ltb-false i (length l) f, prefix_len-le-length (λ x. not (p x)) l)))
 
 -- the sets that do not contain x
 pub without_kept : (x : ℕ) (l : List ActionSet) → bits_of (filter (free x) l) ≡ without x (bits_of l)
@@ -78,9 +56,23 @@ without_kept x (s ∷ l) = pick (within x s.bits) (filter (free x) l) (without_k
     pick true k e = e
     pick false k e = ap (λ (xs : List ℕ). s.bits ∷ xs) e
 
-pub free_if : (x : ℕ) (s : ActionSet) (b : Bool) → within x s.bits ≡ b → free x s ≡ not b
-unfolding free
-free_if x s b e = ap not e
+-- what `==` says of two families
+pub same_equal : (x y : Family) (r : Bool) → r ≡ pointwise (λ a b. eqb a.bits b.bits) (vec_items x.sets) (vec_items y.sets)
+    → r ≡ true ↔ bits_of (vec_items x.sets) ≡ bits_of (vec_items y.sets)
+same_equal x y r e = rw (e ∙ same (vec_items x.sets) (vec_items y.sets)) (bytes_eq-Decides (bits_of (vec_items x.sets)) (bits_of (vec_items y.sets)))
+  where
+    same : (xs ys : List ActionSet) → pointwise (λ a b. eqb a.bits b.bits) xs ys ≡ bytes_eq (bits_of xs) (bits_of ys)
+    same [] [] = refl
+    same [] (y ∷ ys) = refl
+    same (x ∷ xs) [] = refl
+    same (x ∷ xs) (y ∷ ys) = ap (λ b. eqb x.bits y.bits && b) (same xs ys)
+
+pub same_covered : (x y : Family) (r : Bool) → r ≡ pointwise (λ a b. eqb a.bits b.bits) (vec_items x.sets) (vec_items y.sets)
+    → r ≡ (all_covered (bits_of (vec_items x.sets)) (bits_of (vec_items y.sets)) && all_covered (bits_of (vec_items y.sets)) (bits_of (vec_items x.sets)))
+same_covered x y r e =
+    let equal = same_equal x y r e in
+    let covers = families_equal (bits_of (vec_items x.sets)) (bits_of (vec_items y.sets)) x.apart y.apart in
+    same_test _ _ (λ t. covers.1 (equal.0 t)) (λ t. equal.1 (covers.0 t))
 
 -- one set more at a place
 bits_inserted : (l : List ActionSet) (i : ℕ) (s : ActionSet) → bits_of (take i l ++ s ∷ drop i l) ≡ take i (bits_of l) ++ s.bits ∷ drop i (bits_of l)
@@ -93,8 +85,10 @@ unfolding offered
 offered_known x l e = sym (cond-true (covered x (bits_of l)) (bits_of l) _ e)
 
 -- the sets that contain s have been taken out of l, and s put in its place
-pub offered_new : (s : ActionSet) (l left after : List ActionSet) (i : ℕ) → covered s.bits (bits_of l) ≡ false → bits_of left ≡ without s.bits (bits_of l)
-    → Placed s.bits left i → after ≡ take i left ++ s ∷ drop i left → bits_of after ≡ offered s.bits (bits_of l)
+pub offered_new : (s : ActionSet) (l left after : List ActionSet) (i : ℕ) → covered s.bits (bits_of l) ≡ false → left ≡ filter (free s.bits) l
+    → i ≡ position_or_len (λ t. nat_lt s.bits t.bits) left → after ≡ take i left ++ s ∷ drop i left → bits_of after ≡ offered s.bits (bits_of l)
 unfolding offered
 offered_new s l left after i e w p q =
-    ap bits_of q ∙ (bits_inserted left i s ∙ (sym p ∙ (ap (placed s.bits) w ∙ sym (cond-false (covered s.bits (bits_of l)) (bits_of l) _ e))))
+    let first : Placed s.bits left i = rw p (placed_first s.bits left) in
+    let kept = ap bits_of w ∙ without_kept s.bits l in
+    ap bits_of q ∙ (bits_inserted left i s ∙ (sym first ∙ (ap (placed s.bits) kept ∙ sym (cond-false (covered s.bits (bits_of l)) (bits_of l) _ e))))

@@ -1,6 +1,6 @@
 -- Families of sets of actions as ascending lists in which no set contains another, and the minimal acceptance sets. Assumes nothing.
-use Rattle.std.specs.Prelude.{◌≡◌, ℕ, zero, suc, Bool, true, false, cond, not, ◌&&◌, ◌||◌, ◌⊎◌, List, [], ◌∷◌, ◌==◌, bit_and, nat_lt}
-use Rattle.lts.specs.Sets.{has}
+use Rattle.std.specs.Prelude.{◌≡◌, ℕ, zero, suc, Bool, true, false, cond, not, ◌&&◌, ◌||◌, ◌⊎◌, List, [], ◌∷◌, ◌==◌, nat_lt}
+use Rattle.lts.specs.Sets.{has, within}
 use Rattle.lts.specs.System.{System}
 use Rattle.lts.specs.Traces.{offer}
 
@@ -8,10 +8,6 @@ use Rattle.lts.specs.Traces.{offer}
 abbrev pub Member : ℕ → List ℕ → Type 0
 Member x [] = ⊥
 Member x (y ∷ ys) = (x ≡ y) ⊎ Member x ys
-
--- every member of the set a is one of b
-abbrev pub within : ℕ → ℕ → Bool
-within a b = bit_and a b == a
 
 -- x contains a set of the list
 unfoldable pub covered : ℕ → List ℕ → Bool

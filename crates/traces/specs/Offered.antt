@@ -1,7 +1,7 @@
 -- Lists of sets of actions as lists of numbers, and what a family's laws are. Assumes nothing.
 use Rattle.std.specs.Prelude.{◌≡◌, ℕ, Bool, not, List, map}
-use Rattle.lts.specs.Sets.{Subset}
-use Rattle.traces.specs.Families.{Member, within}
+use Rattle.lts.specs.Sets.{Subset, within}
+use Rattle.traces.specs.Families.{Member}
 use Rattle.lts.specs.SetTypes.{ActionSet}
 
 abbrev pub bits_of : List ActionSet → List ℕ

@@ -1,22 +1,12 @@
-use Rattle.std.proofs.Common.{◌+◌, Bool, ◌||◌, drop, sym, ap, ◌∙◌, arith}
-use Rattle.traces.specs.Families.{covered}
-use Rattle.traces.specs.Offered.{bits_of}
-use Rattle.traces.proofs.FamilySteps.{covered_more, covered_none}
+use Rattle.std.proofs.Common.{rules}
+use borrow.Author.Tests.{tests}
+use Rattle.std.proofs.lemmas.Iterator.{YieldsList-from_slice}
+use Rattle.std.proofs.lemmas.Iterator.Search.{any_from_yields_List}
+use Rattle.lts.specs.Sets.{within}
+use Rattle.traces.proofs.FamilySteps.{covered_any}
 use Rattle.traces.proofs.family.is_covered.Goals as goal
 
-pub returns-then-is_within : goal.returns-then-is_within
-returns-then-is_within c =
-    let i = c.loop-set.set-index in
-    let rest = covered c.args.offer.bits (drop (i + 1) (bits_of c.args.sets.now)) in
-    let more = covered_more c.args.offer.bits c.args.sets.now i c.loop-set-test.true in
-    sym (c.loop-set.invariant ∙ (more ∙ ap (λ (b : Bool). b || rest) (sym c.if-is_within.ensures)))
-
-pub loop-set-preserved : goal.loop-set-preserved
-loop-set-preserved c =
-    let i = c.loop-set.set-index in
-    let rest = covered c.args.offer.bits (drop (i + 1) (bits_of c.args.sets.now)) in
-    let more = covered_more c.args.offer.bits c.args.sets.now i c.loop-set-test.true in
-    c.loop-set.invariant ∙ (more ∙ ap (λ (b : Bool). b || rest) (sym c.if-is_within.ensures))
-
 pub returns : goal.returns
-returns c = sym (c.loop-set.invariant ∙ covered_none c.args.offer.bits c.args.sets.now c.loop-set.set-index (omega arith))
+returns c =
+    rw (covered_any _ _)
+    (any_from_yields_List (λ s. within s.bits c.args.offer.bits) _ _ _ c.any.ensures.ran (YieldsList-from_slice c.args.sets.now cc) (λ x b q k. search (rules, tests)))

@@ -9,7 +9,7 @@ invariant_of-self c =
     let room = c.args.self.now.room in
     let few = c.args.self.now.few in
     record {
-      room = omega (arith, c.truncate.ensures.capacity);
-      few = omega (arith, c.truncate.ensures.len);
-      apart = ap (λ l. antichain (bits_of l)) c.truncate.ensures.items ∙ antichain_none;
+      room = omega (arith, c.clear.ensures.capacity);
+      few = omega (arith, c.clear.ensures.len);
+      apart = ap (λ l. antichain (bits_of l)) c.clear.ensures.items ∙ antichain_none;
     }
