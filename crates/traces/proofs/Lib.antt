@@ -5,6 +5,7 @@ pub mod Antichains
 pub mod Marks
 pub mod Searches
 pub mod Tabled
+pub mod Chains
 pub mod UnionSteps
 pub mod Derivations
 pub mod FamilySteps

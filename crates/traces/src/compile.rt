@@ -4,7 +4,6 @@ ghost use Rattle.traces.specs.Compiled.{system_of};
 ghost use Rattle.traces.specs.TableLaws.{table_lawful};
 
 use crate::compiled::Compiled;
-use crate::derive::{after_table, closure_table, divergent_states, offer_table, stable_states};
 use crate::tabulate::tabulate;
 use lts::sets::StateSet;
 use lts::system::Lts;
@@ -15,16 +14,12 @@ pub fn compile_lent<S: Lts>(system: &S, heap: Global) -> Result<Compiled, AllocE
     ensures { IfOk result (λ c. system_of c ≡ S.meaning system.now) }
 {
     let transitions = tabulate(system, heap)?;
-    let closures = closure_table(&transitions, heap)?;
-    let afters = after_table(&transitions, closures.as_slice(), heap)?;
-    let offers = offer_table(&transitions, heap)?;
-    let stable = stable_states(&transitions);
-    let divergent = divergent_states(&transitions);
+    let derived = transitions.derived(heap)?;
+    let stable = transitions.stable_states();
+    let divergent = transitions.divergent_states();
     Ok(Compiled {
         transitions,
-        closures,
-        afters,
-        offers,
+        derived,
         stable,
         divergent,
     })

@@ -1,47 +1,37 @@
-// Every question of a system asked once, and the answers kept in tables.
-ghost use Rattle.std.specs.Prelude.{◌≡◌, ℕ, ◌*◌, length, IfOk};
-ghost use Rattle.traces.specs.Tables.{set_at, Filled, visible_at};
+// Every question of a system asked once, and the answers kept in a table.
+ghost use Rattle.std.specs.Prelude.{◌≡◌, ℕ, IfOk};
+ghost use Rattle.traces.specs.Tables.{row_of, rows_of};
 ghost use Rattle.traces.specs.Transitions.{table_of};
 
-use crate::transitions::Transitions;
-use lts::sets::StateSet;
+use crate::transitions::{TransitionRow, Transitions};
 use lts::system::Lts;
 use std::alloc::{AllocError, Global};
+use std::array;
 
-// Where each action leads from each state.
-fn visible_table<S: Lts>(system: &S, heap: Global) -> Result<Vec<StateSet>, AllocError>
-    ensures { IfOk result (λ v. Filled (set_at v.items) (length v.items) (visible_at (S.meaning system.now)) (32 * (S.meaning system.now).count)) }
+// What the system answers of a state.
+fn row<S: Lts>(system: &S, state: usize) -> TransitionRow
+    ensures { result ≡ row_of (S.meaning system.now) state }
 {
-    let places = 32 * system.count();
-    let mut table = Vec::with_capacity(heap, places)?;
-    for place in 0..places {
-        table.push_reserved(system.visible(place / 32, place % 32));
+    TransitionRow {
+        visible: array::from_fn(|action| system.visible(state, action)),
+        hidden: system.hidden(state),
     }
-    Ok(table)
 }
 
-// Where silent transitions lead from each state.
-fn hidden_table<S: Lts>(system: &S, heap: Global) -> Result<Vec<StateSet>, AllocError>
-    ensures { IfOk result (λ v. Filled (set_at v.items) (length v.items) (S.meaning system.now).hidden (S.meaning system.now).count) }
+// What the system answers of each state.
+fn rows<S: Lts>(system: &S, heap: Global) -> Result<Vec<TransitionRow>, AllocError>
+    ensures { IfOk result (λ v. v.items ≡ rows_of (S.meaning system.now)) }
 {
-    let count = system.count();
-    let mut table = Vec::with_capacity(heap, count)?;
-    for state in 0..count {
-        table.push_reserved(system.hidden(state));
-    }
-    Ok(table)
+    (0..system.count())
+        .map(|state| row(system, state))
+        .collect(heap)
 }
 
-// The system's transitions as tables.
+// The system's transitions as a table.
 pub fn tabulate<S: Lts>(system: &S, heap: Global) -> Result<Transitions, AllocError>
     ensures { IfOk result (λ t. table_of t ≡ S.meaning system.now) }
 {
-    let visible = visible_table(system, heap)?;
-    let hidden = hidden_table(system, heap)?;
-    Ok(Transitions {
-        count: system.count(),
-        start: system.start(),
-        visible,
-        hidden,
-    })
+    let start = system.start();
+    let rows = rows(system, heap)?;
+    Ok(Transitions { start, rows })
 }

@@ -1,20 +1,23 @@
-// The transitions of a system as tables.
-ghost use Rattle.std.specs.Prelude.{◌≡◌, ℕ, ◌*◌, ◌<◌, ◌≤◌, vec_len};
-ghost use Rattle.traces.specs.Tables.{Below};
+// The transitions of a system as a table.
+ghost use Rattle.std.specs.Prelude.{◌≡◌, ℕ, ◌^◌, ◌<◌, ◌≤◌, vec_len};
+ghost use Rattle.traces.specs.Tables.{visible_at, hidden_at};
 
 use lts::sets::StateSet;
 
-// Where action a leads from state p stands at place 32 * p + a.
+// Where the transitions of one state lead: by each action, and silently.
+#[derive(Clone, Copy)]
+pub(crate) struct TransitionRow {
+    pub(crate) visible: [StateSet; 32],
+    pub(crate) hidden: StateSet,
+}
+
+// One row for each state.
 #[derive(Drop)]
 pub struct Transitions {
-    pub(crate) count: usize,
     pub(crate) start: usize,
-    pub(crate) visible: Vec<StateSet>,
-    pub(crate) hidden: Vec<StateSet>,
-    ghost few: { count ≤ 64 },
-    ghost starts: { start < count },
-    ghost actions: { vec_len visible ≡ 32 * count },
-    ghost states: { vec_len hidden ≡ count },
-    ghost visiblewithin: { Below count visible.items },
-    ghost hiddenwithin: { Below count hidden.items },
+    pub(crate) rows: Vec<TransitionRow>,
+    ghost few: { vec_len rows ≤ 64 },
+    ghost starts: { start < vec_len rows },
+    ghost visible_below: { (p a : ℕ) → visible_at rows.items p a < 2 ^ vec_len rows },
+    ghost hidden_below: { (p : ℕ) → hidden_at rows.items p < 2 ^ vec_len rows },
 }
