@@ -15,24 +15,24 @@ impl Head {
     }
 }
 
-// The first word.
+// The first word. A rule of the project, here and below: a chain of let-else, one refusal a link.
 impl TryFrom<u32> for Head {
     type Error = Reason;
 
     ghost try_from_gives = { λ word head. head ≡ head_checked word };
 
     fn try_from(word: u32) -> Result<Head, Reason> {
-        if word >> 28 != 1 {
+        let true = word >> 28 == 1 else {
             return Err(Reason::Kind);
-        }
+        };
         let head = Head {
             lines: bits(word, 16, 12) as usize,
             start: bits(word, 8, 8) as usize,
             states: bits(word, 0, 8) as usize,
         };
-        if !head.fits() {
+        let true = head.fits() else {
             return Err(Reason::Range);
-        }
+        };
         Ok(head)
     }
 }
@@ -66,16 +66,18 @@ impl Body {
     fn part(self, role: Role, word: u32) -> Result<Word, Reason>
         ensures { result ≡ judged self word (decoded role word) }
     {
-        let part = decode(role, word).ok_or(Reason::Kind)?;
-        if !part.within(self.head.states) {
+        let Some(part) = decode(role, word) else {
+            return Err(Reason::Kind);
+        };
+        let true = part.within(self.head.states) else {
             return Err(Reason::Range);
-        }
-        if word <= self.last {
+        };
+        let true = self.last < word else {
             return Err(Reason::Order);
-        }
-        if !part.counted(self.left) {
+        };
+        let true = part.counted(self.left) else {
             return Err(Reason::Lines);
-        }
+        };
         Ok(part)
     }
 
@@ -126,17 +128,18 @@ impl Progress {
     }
 }
 
-// What the head of good words says, or the first fault.
+// What the head of good words says, or the first fault. A rule of the project: the count beside the loop is the fault's place.
 pub(crate) fn check(role: Role, words: &[u32]) -> Result<Head, WordFault>
     ensures { result ≡ checked role words.now }
 {
     let mut progress = Progress::Start;
-    for (place, word) in words.iter().enumerate() {
+    let mut place = 0;
+    for word in words {
         progress = progress
             .step(role, *word)
             .map_err(|reason| WordFault { reason, place })?;
+        place += 1;
     }
-    let place = words.len();
     progress
         .ended()
         .map_err(|reason| WordFault { reason, place })
