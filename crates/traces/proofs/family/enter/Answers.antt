@@ -24,7 +24,7 @@ returns c =
     let kept : left ≡ filter (free x) l = filter_same _ (free x) _ (λ x b f' k. search rules) _ _ c.retain.ensures.filtered in
     let found = position_from_yields_List (λ s. nat_lt x s.bits) _ _ c.position.result c.position.ensures.ran (YieldsList-from_slice left cc) (λ x b q k. search (rules, tests)) in
     let first : c.unwrap_or-place.result ≡ position_or_len (λ s. nat_lt x s.bits) left =
-        c.unwrap_or-place.ensures ∙ first_or_len (λ s. nat_lt x s.bits) left _ _ found (omega (arith, c.retain.new.self.ok.0)) in
+    c.unwrap_or-place.ensures ∙ first_or_len (λ s. nat_lt x s.bits) left _ _ found (omega (arith, c.retain.new.self.ok.0)) in
     let free : vec_len c.retain.new.self < vec_capacity c.retain.new.self = omega arith in
     let ok = c.insert.ensures.succeeds free in
     record {
