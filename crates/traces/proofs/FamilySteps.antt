@@ -9,11 +9,11 @@ use Rattle.std.proofs.lemmas.Slice.Eq.{bytes_eq-Decides}
 use Rattle.std.proofs.lemmas.List.Recursion.{same_from_clauses}
 use Rattle.std.proofs.lemmas.Bool.{cond-true, cond-false, cond_both, ltb-false}
 use Rattle.lts.specs.Sets.{within}
-use Rattle.traces.specs.Families.{covered, all_covered, without, placed, offered}
+use Rattle.traces.specs.Families.{antichain, covered, all_covered, without, placed, offered}
 use Rattle.traces.specs.Offered.{bits_of, free}
 use Rattle.lts.specs.SetTypes.{ActionSet}
 use Rattle.traces.specs.declared.family.Family.{Family}
-use Rattle.traces.proofs.Antichains.{families_equal}
+use Rattle.traces.proofs.Antichains.{antichain_none, families_equal}
 use Rattle.traces.proofs.Marks.{same_test}
 
 -- the words of a family as those of the list of its sets
@@ -92,3 +92,6 @@ offered_new s l left after i e w p q =
     let first : Placed s.bits left i = rw p (placed_first s.bits left) in
     let kept = ap bits_of w ∙ without_kept s.bits l in
     ap bits_of q ∙ (bits_inserted left i s ∙ (sym first ∙ (ap (placed s.bits) kept ∙ sym (cond-false (covered s.bits (bits_of l)) (bits_of l) _ e))))
+
+pub antichain_empty : (l : List ActionSet) → l ≡ [] → antichain (bits_of l) ≡ true
+antichain_empty l e = rw e antichain_none
