@@ -2,7 +2,7 @@
 use Rattle.std.proofs.Common.{ℕ, ◌<◌, not, List, sym, subst, inl, inr, eqb→eq, T_not}
 use native.Mathlib.Decide.{ℕ_discrete}
 use lib.Dec.{not_T}
-use Rattle.lts.specs.Sets.{In, has, Subset}
+use Rattle.lts.specs.Sets.{In, has, Subset, complement}
 use Rattle.lts.specs.System.{System, Lawful, LawfulTester}
 use Rattle.lts.specs.Traces.{Convergent, Acceptance}
 use Rattle.lts.specs.Order.{Actions}
@@ -12,7 +12,7 @@ use Rattle.testing.specs.declared.ground.Side.TheVariants.{Left, Right}
 use Rattle.testing.specs.declared.ground.Ground.{Ground}
 use Rattle.testing.specs.declared.ground.Ground.TheVariants.{Reach, Settle, Offer}
 use Rattle.testing.specs.Testing.{Must, Alike}
-use Rattle.testing.specs.Distinguish.{offer_test, others, test_of, Passes}
+use Rattle.testing.specs.Distinguish.{offer_test, test_of, Passes}
 use Rattle.testing.specs.Splits.{OfferFrom, Splits, passer, non_passer}
 use Rattle.testing.specs.Theorems.{Answers, SoundNo, TestsAndTraces}
 use Rattle.testing.proofs.Truth.{eq_T}
@@ -22,10 +22,10 @@ use Rattle.testing.proofs.Decide.{and_dec, minimal_within}
 use Rattle.testing.proofs.Ladder.{ladder_lawful, reach_test_lem, settle_test_lem, offer_test_lem}
 use Rattle.testing.proofs.SameTraces.{sound_yes}
 
-in_others : (S a : ℕ) → a < 32 → ¬ In a S → In a (others S)
+in_others : (S a : ℕ) → a < 32 → ¬ In a S → In a (complement 32 S)
 in_others S a b f = set_in (λ c. not (has c S)) 32 a b (not_T (has a S) (λ t. f (eqb→eq _ 1 t)))
 
-others_out : (S a : ℕ) → In a (others S) → ¬ In a S
+others_out : (S a : ℕ) → In a (complement 32 S) → ¬ In a S
 others_out S a h i = T_not (has a S) (in_set (λ c. not (has c S)) 32 a h).1 (eq_T _ 1 i)
 
 not_dec : {A : Type 0} → Dec A → Dec (¬ A)
@@ -33,7 +33,7 @@ not_dec (yes a) = no (λ f. f a)
 not_dec (no f) = yes f
 
 -- if no minimal set is part of S, every stable state has an action outside S
-bare_answers : (m : System) → Lawful m → (s : List ℕ) (S : ℕ) → ((A : ℕ) → Acceptance m s A → ¬ Subset A S) → Answers m s (others S)
+bare_answers : (m : System) → Lawful m → (s : List ℕ) (S : ℕ) → ((A : ℕ) → Acceptance m s A → ¬ Subset A S) → Answers m s (complement 32 S)
 bare_answers m lawful s S none A acc =
     elim (look (λ a. In a A × (¬ In a S)) (λ a. and_dec (ℕ_discrete _ 1) (λ i. not_dec (ℕ_discrete _ 1))) 32) [
       | inl f ↦ (f.0, f.2.0, in_others S f.0 f.1 f.2.1)
@@ -51,8 +51,8 @@ module _ (l r : System) (ll : Lawful l) (lr : Lawful r) (s : List ℕ) (actions 
       let none : ((A : ℕ) → Acceptance l s A → ¬ Subset A S) = λ A acc sub.
       (let b = minimal_within l ll s A acc in bare.free b.0 b.1 (λ k i. sub k (b.2 k i))) in
       subst (λ (Q : ℕ). Must l (offer_test s Q) × (¬ Must r (offer_test s Q))) (sym e) (
-        (offer_test_lem l ll s actions (others S)).1 (convergent, bare_answers l ll s S none),
-        λ h. let a = ((offer_test_lem r lr s actions (others S)).0 h).1 S bare.minimal.member in others_out S a.0 a.2 a.1,
+        (offer_test_lem l ll s actions (complement 32 S)).1 (convergent, bare_answers l ll s S none),
+        λ h. let a = ((offer_test_lem r lr s actions (complement 32 S)).0 h).1 S bare.minimal.member in others_out S a.0 a.2 a.1,
       )
 
 test_lawful : (g : Ground) (s : List ℕ) → LawfulTester (test_of g s)

@@ -1,7 +1,7 @@
 -- Two families of minimal acceptance sets: they are the same, or the rule of the ground Offer finds a set. Assumes nothing.
 use Rattle.std.proofs.Common.{◌≡◌, ℕ, zero, suc, ◌+◌, ◌*◌, ◌^◌, ◌<◌, Bool, true, false, cond, not, eqb, ◌⊎◌, ◌↔◌, List, refl, subst, inl, inr, pow-suc, arith}
 use native.Mathlib.Decide.{dec_lt}
-use Rattle.lts.specs.Sets.{Subset, set_of}
+use Rattle.lts.specs.Sets.{Subset, set_of, complement}
 use Rattle.lts.specs.System.{System, Lawful}
 use Rattle.lts.specs.Traces.{Minimal}
 use Rattle.lts.specs.SetTypes.{ActionSet}
@@ -9,7 +9,6 @@ use Rattle.lts.proofs.Membership.{same_members}
 use Rattle.testing.specs.declared.ground.Side.{Side}
 use Rattle.testing.specs.declared.ground.Side.TheVariants.{Left, Right}
 use Rattle.testing.specs.declared.ground.Ground.TheVariants.{Offer}
-use Rattle.testing.specs.Distinguish.{others}
 use Rattle.testing.specs.Splits.{Bare, Lowest, BothConvergent, Splits}
 use Rattle.testing.specs.Theorems.{RuleFinds}
 use Rattle.testing.proofs.Search.{look}
@@ -70,9 +69,9 @@ module _ (l r : System) (ll : Lawful l) (lr : Lawful r) (s : List ℕ) where
   -- what the rule comes to
   pub rule : BothConvergent l r s → ((O : ActionSet) × (p : Side) × Splits l r s (Offer O) p) ⊎ ((A : ℕ) → Minimal l s A ↔ Minimal r s A)
   rule both = elim (find_bare l r ll lr s) [
-    | inl f ↦ inl (record { bits = others f.0 }, Right, (both, (f.0, f.1, refl)))
+    | inl f ↦ inl (record { bits = complement 32 f.0 }, Right, (both, (f.0, f.1, refl)))
     | inr up ↦ elim (find_bare r l lr ll s) [
-      | inl f ↦ inl (record { bits = others f.0 }, Left, (both, up.0, (f.0, f.1, refl)))
+      | inl f ↦ inl (record { bits = complement 32 f.0 }, Left, (both, up.0, (f.0, f.1, refl)))
       | inr down ↦ inr (same_families l r s down.1 up.1)
     ]
   ]

@@ -1,9 +1,11 @@
 -- What is worked out from what a trace shows of two systems is how it splits them. Assumes nothing.
-use Rattle.std.proofs.Common.{◌≡◌, ℕ, Bool, true, false, eqb, ◌↔◌, List, Some, None, Option, sym, subst, eqb→eq, T_not}
+use Rattle.std.proofs.Common.{◌≡◌, ℕ, Bool, true, false, eqb, ◌↔◌, List, Some, None, Option, Bor, refl, sym, subst, eqb→eq, T_not}
 use Rattle.lts.specs.System.{System}
 use Rattle.lts.specs.Traces.{CanDo, Convergent}
 use Rattle.traces.specs.Macrostates.{macrostate}
+use Rattle.lts.specs.SetTypes.{ActionSet}
 use Rattle.traces.specs.Families.{minimal}
+use Rattle.traces.specs.Offered.{bits_of}
 use Rattle.lts.proofs.Membership.{some_member, not_empty}
 use Rattle.traces.proofs.TraceStates.{states_after, convergent_along}
 use Rattle.traces.proofs.Antichains.{antichain_ascending, minimal_antichain, member_minimal, minimal_member}
@@ -13,9 +15,10 @@ use Rattle.testing.specs.declared.ground.Side.{Side}
 use Rattle.testing.specs.declared.ground.Side.TheVariants.{Left, Right}
 use Rattle.testing.specs.declared.ground.Ground.{Ground}
 use Rattle.testing.specs.declared.ground.Ground.TheVariants.{Reach, Settle, Offer}
+use Rattle.testing.specs.declared.ground.Shown.TheVariants.{Unable, Divergent, Offers}
 use Rattle.testing.specs.declared.ground.Split.{Split}
 use Rattle.testing.specs.Splits.{BothConvergent, Splits}
-use Rattle.testing.specs.Judging.{split_on, split_rule, Shows, Judges, MacrostateShows}
+use Rattle.testing.specs.Judging.{split_on, split_rule, told, shown_as, Judges, ShownAs, RuleJudges, MacrostateShows}
 use Rattle.testing.proofs.OneGround.{one_ground}
 use Rattle.testing.proofs.OfferRule.{rule_splits, some≢none}
 
@@ -52,19 +55,39 @@ module _ (l r : System) (s : List ℕ) where
   none_converge c d f g (Offer O) Left b = f b.0.left_convergent
   none_converge c d f g (Offer O) Right b = f b.0.left_convergent
 
-by_flags : (l r : System) (s : List ℕ) (dl dr cl cr : Bool) (xs ys : List ℕ) → Shows l s dl cl xs → Shows r s dr cr ys → Tells l r s (split_rule dl dr cl cr xs ys)
-by_flags l r s true true true true xs ys a b =
-    let both : BothConvergent l r s = record { left = a.does.0 tt; right = b.does.0 tt; left_convergent = a.converges.0 tt; right_convergent = b.converges.0 tt } in
-    rule_splits l r s xs ys both (a.minimal tt) (b.minimal tt)
-by_flags l r s true true true false xs ys a b = tells_split l r s Settle Left (a.does.0 tt, b.does.0 tt, a.converges.0 tt, b.converges.1)
-by_flags l r s true true false true xs ys a b = tells_split l r s Settle Right (a.does.0 tt, b.does.0 tt, b.converges.0 tt, a.converges.1)
-by_flags l r s true true false false xs ys a b = tells_none l r s (none_converge l r s (a.does.0 tt) (b.does.0 tt) a.converges.1 b.converges.1)
-by_flags l r s true false cl cr xs ys a b = tells_split l r s Reach Left (a.does.0 tt, b.does.1)
-by_flags l r s false true cl cr xs ys a b = tells_split l r s Reach Right (b.does.0 tt, a.does.1)
-by_flags l r s false false cl cr xs ys a b = tells_none l r s (none_do l r s a.does.1 b.does.1)
-
 pub judges : Judges
-judges l r s x y = by_flags l r s x.does y.does x.convergent y.convergent _ _
+judges l r s (Offers xs) (Offers ys) a b =
+    let both : BothConvergent l r s = record { left = a.0; right = b.0; left_convergent = a.1; right_convergent = b.1 } in
+    rule_splits l r s (bits_of xs.now) (bits_of ys.now) both a.2 b.2
+judges l r s (Offers xs) Divergent a b = tells_split l r s Settle Left (a.0, b.0, a.1, b.1)
+judges l r s (Offers xs) Unable a b = tells_split l r s Reach Left (a.0, b)
+judges l r s Divergent (Offers ys) a b = tells_split l r s Settle Right (a.0, b.0, b.1, a.1)
+judges l r s Divergent Divergent a b = tells_none l r s (none_converge l r s a.0 b.0 a.1 b.1)
+judges l r s Divergent Unable a b = tells_split l r s Reach Left (a.0, b)
+judges l r s Unable (Offers ys) a b = tells_split l r s Reach Right (b.0, a)
+judges l r s Unable Divergent a b = tells_split l r s Reach Right (b.0, a)
+judges l r s Unable Unable a b = tells_none l r s (none_do l r s a b)
+
+pub shown_as_lem : ShownAs
+shown_as_lem m s false c sets a = a.does.1
+shown_as_lem m s true false sets a = (a.does.0 tt, a.converges.1)
+shown_as_lem m s true true sets a = (a.does.0 tt, a.converges.0 tt, a.minimal tt)
+
+told_as : (dl dr cl cr : Bool) (xs ys : Bor (List ActionSet))
+    → told (shown_as dl cl xs) (shown_as dr cr ys) ≡ split_rule dl dr cl cr (bits_of xs.now) (bits_of ys.now)
+told_as false false cl cr xs ys = refl
+told_as false true cl false xs ys = refl
+told_as false true cl true xs ys = refl
+told_as true false false cr xs ys = refl
+told_as true false true cr xs ys = refl
+told_as true true false false xs ys = refl
+told_as true true false true xs ys = refl
+told_as true true true false xs ys = refl
+told_as true true true true xs ys = refl
+
+pub rule_judges : RuleJudges
+rule_judges l r s dl dr cl cr xs ys a b =
+    rw (← told_as dl dr cl cr xs ys) (judges l r s (shown_as dl cl xs) (shown_as dr cr ys) (shown_as_lem l s dl cl xs a) (shown_as_lem r s dr cr ys b))
 
 pub macrostate_shows : MacrostateShows
 macrostate_shows m lawful s =

@@ -12,3 +12,4 @@ pub mod OneGround
 pub mod OfferRule
 pub mod Judged
 pub mod SetLists
+pub mod Carried

@@ -4,6 +4,7 @@ use Rattle.std.proofs.lemmas.Bool.{both_ways, cond_both}
 use Rattle.lts.specs.Sets.{Subset, Above, Ascending}
 use Rattle.lts.specs.System.{System}
 use Rattle.traces.specs.Families.{Member, covered}
+use Rattle.traces.specs.Offered.{Incomparable}
 use Rattle.traces.proofs.Antichains.{within_subset, subset_within, covered_member, member_covered, ascending_same}
 use Rattle.lts.proofs.Membership.{same_members}
 use Rattle.testing.specs.declared.ground.Side.{Side}
@@ -12,7 +13,7 @@ use Rattle.testing.specs.declared.ground.Ground.{Ground}
 use Rattle.testing.specs.declared.ground.Ground.TheVariants.{Reach, Settle, Offer}
 use Rattle.testing.specs.declared.ground.Split.{Split}
 use Rattle.testing.specs.Splits.{Bare, Lowest, BothConvergent, Splits}
-use Rattle.testing.specs.Rule.{first_bare, by_offer, offer_rule, Antichain, BareIn, Listed, RuleSays, RuleLaw, RuleDiffers, RuleSplits}
+use Rattle.testing.specs.Rule.{first_bare, by_offer, offer_rule, BareIn, Listed, RuleSays, RuleLaw, RuleDiffers, RuleSplits}
 use Rattle.testing.proofs.OneGround.{one_ground}
 
 above_member : (w z : ℕ) (xs : List ℕ) → Above w xs → Member z xs → w < z
@@ -67,7 +68,7 @@ rule_law xs ys a b = by (first_bare xs ys) (first_bare ys xs) (first_bare_lem xs
     by None None f g = (none_bare xs ys f, none_bare ys xs g)
 
 -- of lists that cover each other, each has the other's members
-moved : (xs ys : List ℕ) → Antichain xs → Found xs ys None → Found ys xs None → (z : ℕ) → Member z xs → Member z ys
+moved : (xs ys : List ℕ) → Incomparable xs → Found xs ys None → Found ys xs None → (z : ℕ) → Member z xs → Member z ys
 moved xs ys apart f g z h =
     let c = f z h in
     let d = g c.0 c.1 in

@@ -8,7 +8,7 @@ use Rattle.testing.specs.declared.ground.Side.{Side}
 use Rattle.testing.specs.declared.ground.Side.TheVariants.{Left, Right}
 use Rattle.testing.specs.declared.ground.Ground.{Ground}
 use Rattle.testing.specs.declared.ground.Ground.TheVariants.{Reach, Settle, Offer}
-use Rattle.testing.specs.Distinguish.{others}
+use Rattle.lts.specs.Sets.{complement}
 use Rattle.testing.specs.Splits.{Lowest, OfferFrom, BothConvergent, Splits}
 use Rattle.testing.specs.Theorems.{OneGround, OneFirst}
 
@@ -17,7 +17,7 @@ lowest_one S R a b = omega (arith, a.lowest R b.holds, b.lowest S a.holds)
 
 same_offer : (l r : System) (s : List ℕ) (O Q : ActionSet) → OfferFrom l r s O.bits → OfferFrom l r s Q.bits → Offer O ≡ Offer Q
 same_offer l r s O Q a b =
-    let e : O.bits ≡ Q.bits = a.2 ∙ ap (λ (S : ℕ). others S) (lowest_one a.0 b.0 a.1 b.1) ∙ sym b.2 in
+    let e : O.bits ≡ Q.bits = a.2 ∙ ap (λ (S : ℕ). complement 32 S) (lowest_one a.0 b.0 a.1 b.1) ∙ sym b.2 in
     λ i. Offer (record { bits = e i })
 
 module _ (l r : System) (s : List ℕ) where

@@ -1,6 +1,6 @@
 -- The distinguishing test of a ground and a trace. Assumes nothing.
-use Rattle.std.specs.Prelude.{ℕ, zero, suc, ◌+◌, ◌^◌, Bool, true, false, cond, not, ◌&&◌, ◌||◌, ltb, List, [], ◌∷◌, length, ◌==◌, nat_eq, nat_le, nat_lt}
-use Rattle.lts.specs.Sets.{has, set_of}
+use Rattle.std.specs.Prelude.{ℕ, zero, suc, ◌+◌, ◌^◌, Bool, true, false, cond, ◌&&◌, ◌||◌, ltb, List, [], ◌∷◌, length, ◌==◌, nat_eq, nat_le, nat_lt}
+use Rattle.lts.specs.Sets.{has}
 use Rattle.lts.specs.System.{System, Tester}
 use Rattle.testing.specs.declared.ground.Ground.{Ground}
 use Rattle.testing.specs.declared.ground.Ground.TheVariants.{Reach, Settle, Offer}
@@ -37,10 +37,6 @@ settle_test s = ladder s (λ i. true) 0
 -- after s, and only there, it needs an action of O to pass
 abbrev pub offer_test : List ℕ → ℕ → Tester
 offer_test s O = ladder s (λ i. ltb i (length s)) O
-
--- the actions from 0 to 31 that are not in the set S
-abbrev pub others : ℕ → ℕ
-others S = set_of (λ a. not (has a S)) 32
 
 -- the distinguishing test of a ground and a trace
 abbrev pub test_of : Ground → List ℕ → Tester

@@ -4,3 +4,4 @@ pub mod Splits
 pub mod Theorems
 pub mod Rule
 pub mod Judging
+pub mod Laws

@@ -1,15 +1,15 @@
 -- The rule of the ground Offer, worked out over two ascending lists of minimal acceptance sets. Assumes nothing.
 use Rattle.std.specs.Prelude.{◌≡◌, ℕ, cond, ◌⊎◌, ◌↔◌, List, [], ◌∷◌, Some, None, Option}
-use Rattle.lts.specs.Sets.{Subset, Ascending}
+use Rattle.lts.specs.Sets.{Subset, complement, Ascending}
 use Rattle.lts.specs.System.{System}
 use Rattle.lts.specs.Traces.{Minimal}
 use Rattle.traces.specs.Families.{Member, covered}
+use Rattle.traces.specs.Offered.{Incomparable}
 use Rattle.testing.specs.declared.ground.Side.{Side}
 use Rattle.testing.specs.declared.ground.Side.TheVariants.{Left, Right}
 use Rattle.testing.specs.declared.ground.Ground.{Ground}
 use Rattle.testing.specs.declared.ground.Ground.TheVariants.{Offer}
 use Rattle.testing.specs.declared.ground.Split.{Split}
-use Rattle.testing.specs.Distinguish.{others}
 use Rattle.testing.specs.Splits.{Lowest, BothConvergent, Splits}
 
 -- the first of xs that contains no set of ys
@@ -23,7 +23,7 @@ split_by g p = record { ground = g; passer = p }
 
 -- the split by the set S, which the given side passes
 abbrev pub offer_split : ℕ → Side → Split
-offer_split S p = split_by (Offer (record { bits = others S })) p
+offer_split S p = split_by (Offer (record { bits = complement 32 S })) p
 
 -- what comes of a set found on the left, or failing that on the right: the passer is the other side
 abbrev pub by_offer : Option ℕ → Option ℕ → Option Split
@@ -33,10 +33,6 @@ by_offer None None = None
 
 abbrev pub offer_rule : List ℕ → List ℕ → Option Split
 offer_rule xs ys = by_offer (first_bare xs ys) (first_bare ys xs)
-
--- no set of the list contains another
-abbrev pub Antichain : List ℕ → Type 0
-Antichain xs = (x y : ℕ) → Member x xs → Member y xs → Subset x y → x ≡ y
 
 -- S stands in xs and contains no set of ys
 pub record BareIn (xs ys : List ℕ) (S : ℕ) : Type 0 where
@@ -62,7 +58,7 @@ RuleLaw = (xs ys : List ℕ) → Ascending xs → Ascending ys → RuleSays xs y
 
 -- Of two lists in which no set contains another it finds a set exactly when they differ.
 abbrev pub RuleDiffers : Type 0
-RuleDiffers = (xs ys : List ℕ) → Ascending xs → Ascending ys → Antichain xs → Antichain ys → offer_rule xs ys ≡ None ↔ xs ≡ ys
+RuleDiffers = (xs ys : List ℕ) → Ascending xs → Ascending ys → Incomparable xs → Incomparable ys → offer_rule xs ys ≡ None ↔ xs ≡ ys
 
 -- At the minimal acceptance sets of two convergent systems it tells how the trace splits them.
 abbrev pub RuleSplits : Type 0

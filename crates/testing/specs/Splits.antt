@@ -1,6 +1,6 @@
 -- What splits two systems, in the words of traces. Assumes nothing.
 use Rattle.std.specs.Prelude.{◌≡◌, ℕ, ◌≤◌, List}
-use Rattle.lts.specs.Sets.{Subset}
+use Rattle.lts.specs.Sets.{Subset, complement}
 use Rattle.lts.specs.System.{System}
 use Rattle.lts.specs.Traces.{CanDo, Convergent, Minimal}
 use Rattle.lts.specs.Order.{Actions, Before}
@@ -8,7 +8,6 @@ use Rattle.testing.specs.declared.ground.Side.{Side}
 use Rattle.testing.specs.declared.ground.Side.TheVariants.{Left, Right}
 use Rattle.testing.specs.declared.ground.Ground.{Ground}
 use Rattle.testing.specs.declared.ground.Ground.TheVariants.{Reach, Settle, Offer}
-use Rattle.testing.specs.Distinguish.{others}
 
 -- S is a minimal acceptance set of l after s that contains none of r
 pub record Bare (l r : System) (s : List ℕ) (S : ℕ) : Type 0 where
@@ -29,7 +28,7 @@ pub record BothConvergent (l r : System) (s : List ℕ) : Type 0 where
 
 -- O is the offer of the lowest minimal set of l that contains none of r: all actions outside it
 abbrev pub OfferFrom : System → System → List ℕ → ℕ → Type 0
-OfferFrom l r s O = (S : ℕ) × Lowest (Bare l r s) S × (O ≡ others S)
+OfferFrom l r s O = (S : ℕ) × Lowest (Bare l r s) S × (O ≡ complement 32 S)
 
 -- The first ground that holds of the trace s, and the system that passes its test. On the ground Offer the passer is the one that S was not
 -- taken from: the right one where the left has such an S, and otherwise the left one.

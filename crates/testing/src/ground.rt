@@ -24,11 +24,11 @@ pub struct Split {
     pub passer: Side,
 }
 
-// What a trace shows of one system: whether it can do it, whether it is convergent along it and, if so, its minimal acceptance sets after it in
-// rising order.
+// What a trace shows of one system. Unable: it cannot do the trace. Divergent: it can, and is not convergent along it.
+// Offers: it can and is convergent along it, and these are its minimal acceptance sets after it, in rising order.
 #[derive(Clone, Copy)]
-pub struct Shown<'a> {
-    pub does: bool,
-    pub convergent: bool,
-    pub minimal: &'a [ActionSet],
+pub enum Shown<'a> {
+    Unable,
+    Divergent,
+    Offers(&'a [ActionSet]),
 }

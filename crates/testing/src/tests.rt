@@ -3,14 +3,6 @@ use crate::ground::{Ground, Shown, Side, Split};
 use crate::splitting::split;
 use lts::sets::ActionSet;
 
-fn after(convergent: bool, minimal: &[ActionSet]) -> Shown<'_> {
-    Shown {
-        does: true,
-        convergent,
-        minimal,
-    }
-}
-
 // One system offers actions 1 and 2 together, the other one of them and does not say which.
 #[test]
 fn offers_apart(rt: HostRuntime) {
@@ -19,7 +11,7 @@ fn offers_apart(rt: HostRuntime) {
     let ground = Ground::Offer(ActionSet::from_bits(0xFFFF_FFFD));
     let passer = Side::Left;
     assert_eq!(rt;
-        split(after(true, &both), after(true, &either)),
+        split(Shown::Offers(&both), Shown::Offers(&either)),
         Some(Split { ground, passer })
     );
 }
@@ -36,7 +28,7 @@ fn left_asked_first(rt: HostRuntime) {
     let ground = Ground::Offer(ActionSet::from_bits(0xFFFF_FFF9));
     let passer = Side::Right;
     assert_eq!(rt;
-        split(after(true, &left), after(true, &right)),
+        split(Shown::Offers(&left), Shown::Offers(&right)),
         Some(Split { ground, passer })
     );
 }
@@ -48,7 +40,7 @@ fn settles_before_offers(rt: HostRuntime) {
     let ground = Ground::Settle;
     let passer = Side::Right;
     assert_eq!(rt;
-        split(after(false, &[]), after(true, &one)),
+        split(Shown::Divergent, Shown::Offers(&one)),
         Some(Split { ground, passer })
     );
 }

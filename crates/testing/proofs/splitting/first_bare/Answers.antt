@@ -1,18 +1,17 @@
--- One set more, and none left.
-use Rattle.std.proofs.Common.{sym, ◌∙◌, arith}
-use Rattle.testing.specs.Judging.{numbers}
-use Rattle.testing.proofs.SetLists.{bare_more, bare_none}
+-- What `find` gives is the first bare set.
+use Rattle.std.proofs.Common.{not, rules}
+use borrow.Author.Tests.{tests}
+use Rattle.std.proofs.lemmas.Iterator.{YieldsList-from_slice}
+use Rattle.std.proofs.lemmas.Iterator.Consumers.{YieldsList-from_copied}
+use Rattle.std.proofs.lemmas.Iterator.Search.{find_from_yields_List}
+use Rattle.traces.specs.Families.{covered}
+use Rattle.traces.specs.Offered.{bits_of}
+use Rattle.testing.proofs.SetLists.{found_bare}
 use Rattle.testing.proofs.splitting.first_bare.Goals as goal
 
-pub returns-then-not-covered : goal.returns-then-not-covered
-returns-then-not-covered c =
-    let m = bare_more (numbers c.args.rivals.now) c.args.sets.now c.loop-set.set-index (omega arith) in
-    sym (c.loop-set.invariant ∙ (rw (sym c.covered.ensures ∙ c.if-not-covered.true) at m))
-
-pub loop-set-preserved : goal.loop-set-preserved
-loop-set-preserved c =
-    let m = bare_more (numbers c.args.rivals.now) c.args.sets.now c.loop-set.set-index (omega arith) in
-    c.loop-set.invariant ∙ (rw (sym c.covered.ensures ∙ c.if-not-covered.false) at m)
-
 pub returns : goal.returns
-returns c = sym (c.loop-set.invariant ∙ bare_none (numbers c.args.rivals.now) c.args.sets.now c.loop-set.set-index (omega arith))
+returns c =
+    let ys = bits_of c.args.rivals.now in
+    let found = find_from_yields_List (λ s. not (covered s.bits ys)) _ _ c.find.result c.find.ensures.ran (YieldsList-from_copied (YieldsList-from_slice c.args.sets.now cc))
+    (λ x b q k. search (rules, tests)) in
+    found_bare _ ys _ found
