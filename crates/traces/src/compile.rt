@@ -29,10 +29,7 @@ pub fn compile_lent<S: Lts>(system: &S, heap: Global) -> Result<Compiled, AllocE
 pub fn compile<S: Lts + Drop>(system: S, heap: Global) -> Result<Compiled, S>
     ensures { MatchResult result (λ c. system_of c ≡ S.meaning system) (λ back. back ≡ system) }
 {
-    match compile_lent(&system, heap) {
-        Ok(compiled) => Ok(compiled),
-        Err(_) => Err(system),
-    }
+    compile_lent(&system, heap).map_err(|_| system)
 }
 
 impl Lts for Compiled {
