@@ -1,6 +1,8 @@
 -- What a written card holds is valid. Assumes nothing.
-use Rattle.std.specs.Prelude.{◌≡◌, ℕ, ◌^◌, ◌<◌, false}
+use Rattle.std.specs.Prelude.{◌≡◌, ℕ, ◌^◌, ◌<◌, ◌≤◌, false}
 use Rattle.std.proofs.Common.{arith}
+use Rattle.lts.specs.Sets.{has}
+use Rattle.lts.proofs.Membership.{outside, out_has}
 use Rattle.cards.specs.declared.lines.Role.{Role}
 use Rattle.cards.specs.declared.written_card.WrittenCard.{WrittenCard}
 use Rattle.cards.specs.Cards.{contents_with}
@@ -18,3 +20,7 @@ held_valid role p c h a = record {
   passing = h;
   allowed = a;
 }
+
+-- what is no state does not pass
+pub passes_none : (n p q : ℕ) → p < 2 ^ n → n ≤ q → has q p ≡ false
+passes_none n p q h l = out_has q p (λ i. let z = outside n p q h l in omega arith)

@@ -78,6 +78,7 @@ impl Lts for WrittenTest {
 impl Test for WrittenTest {
     ghost passing = { λ t. test_passes t };
 
+    #[tactic(auto, using(crate::proofs::Holding::passes_none))]
     fn passes(&self, state: usize) -> bool {
         self.passing.contains(state)
     }
