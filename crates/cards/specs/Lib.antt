@@ -9,3 +9,4 @@ pub mod Tests
 pub mod Bytes
 pub mod Meant
 pub mod Holding
+pub mod Display

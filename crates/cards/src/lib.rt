@@ -4,6 +4,7 @@
 mod bytes;
 pub mod card_calls;
 mod collecting;
+mod display;
 pub mod faults;
 pub mod lines;
 mod reading;
