@@ -1,6 +1,6 @@
-pub mod Appending
 pub mod Hex
 pub mod Known
-pub mod Lists
+pub mod Members
 pub mod Moves
-pub mod Pieces
+pub mod Texts
+pub mod Written

@@ -1,5 +1,6 @@
 -- Any system as text, by its transitions. Assumes nothing.
-use Rattle.std.specs.Prelude.{ℕ, zero, suc, ◌+◌, ◌*◌, ◌/◌, ◌%◌, List, [], ◌∷◌, ◌++◌, codes, decimal}
+use Rattle.std.specs.Prelude.{ℕ, zero, suc, ◌+◌, ◌*◌, ◌/◌, ◌%◌, List, [], ◌++◌, codes, decimal}
+use Rattle.std.specs.List.{flat_map}
 use Rattle.cards.specs.declared.lines.Label.{Label}
 use Rattle.cards.specs.declared.lines.Label.TheVariants.{Action, Silent}
 use Rattle.lts.specs.Sets.{members}
@@ -7,9 +8,8 @@ use Rattle.lts.specs.System.{System}
 use Rattle.printing.specs.Shown.{newline, line_text}
 
 -- a line for each state that the label leads to from p
-unfoldable pub targets_text : ℕ → Label → List ℕ → List ℕ
-targets_text p l [] = []
-targets_text p l (q ∷ qs) = line_text (record { from = p; label = l; to = q }) ++ targets_text p l qs
+abbrev pub targets_text : ℕ → Label → List ℕ → List ℕ
+targets_text p l qs = flat_map (λ q. line_text (record { from = p; label = l; to = q })) qs
 
 -- the texts of n numbers from k on, one after another
 unfoldable pub text_from : (ℕ → List ℕ) → ℕ → ℕ → List ℕ

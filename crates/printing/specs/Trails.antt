@@ -1,5 +1,6 @@
 -- Where a trace leads, as text. Assumes nothing.
 use Rattle.std.specs.Prelude.{ℕ, Bool, true, false, cond, List, [], ◌∷◌, ◌++◌, Ok, Err, codes, decimal, Result}
+use Rattle.std.specs.List.{flat_map}
 use Rattle.lts.specs.Sets.{members}
 use Rattle.lts.specs.System.{System}
 use Rattle.traces.specs.Macrostates.{Macrostate, macrostate}
@@ -12,31 +13,34 @@ use Rattle.cards.specs.Lines.{system_of}
 use Rattle.printing.specs.Shown.{newline, fault_text}
 
 -- numbers, each after a blank
-unfoldable pub blanked_text : List ℕ → List ℕ
-blanked_text [] = []
-blanked_text (n ∷ ns) = (codes " " ++ decimal n) ++ blanked_text ns
+abbrev pub blanked_text : List ℕ → List ℕ
+blanked_text ns = flat_map (λ n. codes " " ++ decimal n) ns
 
 -- the same, and a dash where there is no number
 abbrev pub numbers_text : List ℕ → List ℕ
 numbers_text [] = codes " -"
 numbers_text (n ∷ ns) = blanked_text (n ∷ ns)
 
--- a line for each set of actions
-unfoldable pub accepts_text : List ℕ → List ℕ
-accepts_text [] = []
-accepts_text (s ∷ ss) = (codes "accepts" ++ (numbers_text (members s) ++ newline)) ++ accepts_text ss
+-- a line for a set of actions
+abbrev pub accept_text : ℕ → List ℕ
+accept_text s = codes "accepts" ++ (numbers_text (members s) ++ newline)
+
+-- a line for each of the sets
+abbrev pub accepts_text : List ℕ → List ℕ
+accepts_text ss = flat_map accept_text ss
 
 abbrev pub convergent_text : Bool → List ℕ
 convergent_text true = codes "\nconvergent yes\n"
 convergent_text false = codes "\nconvergent no\n"
 
+-- the trace s, the states q after it, whether these are convergent, and sets of actions
+abbrev pub trail_text : List ℕ → ℕ → Bool → List ℕ → List ℕ
+trail_text s q convergent sets =
+    codes "trace" ++ (numbers_text s ++ (codes "\nstates" ++ (numbers_text (members q) ++ (convergent_text convergent ++ accepts_text sets))))
+
 -- the trace s and the macrostate x of m after it: the states that m may be in and, where it is convergent, the minimal acceptance sets
 abbrev pub macrostate_text : System → List ℕ → Macrostate → List ℕ
-macrostate_text m s x =
-    codes "trace"
-    ++ (numbers_text s
-    ++ (codes "\nstates"
-    ++ (numbers_text (members x.states) ++ (convergent_text x.convergent ++ accepts_text (cond x.convergent (minimal m x.states) [])))))
+macrostate_text m s x = trail_text s x.states x.convergent (cond x.convergent (minimal m x.states) [])
 
 -- what is known of m after the trace s
 unfoldable pub known_text : System → List ℕ → List ℕ

@@ -2,6 +2,6 @@
 #![tactic(auto)]
 
 pub mod cards_shown;
-mod numerals;
+mod numbers;
 pub mod systems_shown;
 pub mod traces_shown;

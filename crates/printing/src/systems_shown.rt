@@ -1,77 +1,59 @@
 // Any system as text, by its transitions.
-ghost use Rattle.std.specs.Prelude.{◌≡◌, ℕ, ◌*◌, List, ◌++◌, IfOk, string_bytes, OnOk};
+ghost use Rattle.std.specs.Prelude.{◌≡◌, ℕ, ◌<◌, IfOk, Some, string_bytes};
+ghost use Rattle.std.specs.Fmt.{WritesOnOk};
 ghost use Rattle.lts.specs.Sets.{members as members_of};
-ghost use Rattle.printing.specs.Shown.{line_text};
-ghost use Rattle.printing.specs.Systems.{targets_text, text_from, visible_text, silent_text, system_text};
+ghost use Rattle.printing.specs.Systems.{targets_text, system_text};
 
-use cards::lines::Label;
+use cards::lines::{Label, Line};
 use lts::members::Members;
 use lts::system::Lts;
 use std::alloc::{AllocError, Global};
-
-// A transition, as from-label-to.
-fn transition_text(heap: Global, from: usize, label: Label, to: usize) -> Result<String, AllocError>
-    ensures { IfOk result (λ s. string_bytes s ≡ line_text (record { from = from; label = label; to = to })) }
-{
-    match label {
-        Label::Action(action) => format!(in heap; "{from}-{action}-{to}\n"),
-        Label::Silent => format!(in heap; "{from}-h-{to}\n"),
-    }
-}
+use std::fmt;
 
 // A line for each state that the label leads to.
-fn push_targets(
-    heap: Global,
-    text: &mut String,
-    from: usize,
+fn write_targets<W: fmt::Write>(
+    f: &mut fmt::Formatter<W>,
+    from: u8,
     label: Label,
     targets: Members,
-) -> Result<(), AllocError>
-    ensures { OnOk result (string_bytes text.new ≡ string_bytes text.old ++ targets_text from label (members_of targets.rest)) }
+) -> fmt::Result
+    ensures { WritesOnOk W.write_str_gives f.old result (targets_text from label (members_of targets.rest)) f.new }
 {
     for to in targets {
-        let line = transition_text(heap, from, label, to)?;
-        text.push_str(line.as_str())?;
+        let to = to as u8;
+        writeln!(f, "{}", Line { from, label, to })?;
     }
     Ok(())
 }
 
-fn push_visible<S: Lts>(heap: Global, text: &mut String, system: &S) -> Result<(), AllocError>
-    ensures { OnOk result (string_bytes text.new ≡ string_bytes text.old ++ text_from (visible_text (S.meaning system.now)) 0 (32 * (S.meaning system.now).count)) }
-{
-    let places = 32 * system.count();
-    for place in 0..places {
-        let action = place % 32;
-        let targets = system.visible(place / 32, action).members();
-        push_targets(heap, text, place / 32, Label::Action(action as u8), targets)?;
-    }
-    Ok(())
-}
+// What any kind of system is: its states and start, then each state's transitions by their actions, then the silent ones.
+#[derive(Drop)]
+struct SystemShown<'a, S>(&'a S);
 
-fn push_silent<S: Lts>(heap: Global, text: &mut String, system: &S) -> Result<(), AllocError>
-    ensures { OnOk result (string_bytes text.new ≡ string_bytes text.old ++ text_from (silent_text (S.meaning system.now)) 0 (S.meaning system.now).count) }
-{
-    let count = system.count();
-    for state in 0..count {
-        push_targets(
-            heap,
-            text,
-            state,
-            Label::Silent,
-            system.hidden(state).members(),
-        )?;
+impl<S: Lts> fmt::Display for SystemShown<'_, S> {
+    ghost output = { λ s. Some (system_text (S.meaning s.0.now)) };
+
+    fn fmt<W: fmt::Write>(&self, f: &mut fmt::Formatter<W>) -> fmt::Result {
+        let system = self.0;
+        let states = system.count();
+        let start = system.start();
+        writeln!(f, "states {states} start {start}")?;
+        for state in 0..states {
+            for action in 0..32u8 {
+                let targets = system.visible(state, usize::from(action)).members();
+                write_targets(f, state as u8, Label::Action(action), targets)?;
+            }
+        }
+        for from in 0..states {
+            write_targets(f, from as u8, Label::Silent, system.hidden(from).members())?;
+        }
+        Ok(())
     }
-    Ok(())
 }
 
 // What any kind of system is: its states and start, then each state's transitions by their actions, then the silent ones.
 pub fn system_text<S: Lts>(heap: Global, system: &S) -> Result<String, AllocError>
     ensures { IfOk result (λ s. string_bytes s ≡ system_text (S.meaning system.now)) }
 {
-    let states = system.count();
-    let start = system.start();
-    let mut text = format!(in heap; "states {states} start {start}\n")?;
-    push_visible(heap, &mut text, system)?;
-    push_silent(heap, &mut text, system)?;
-    Ok(text)
+    SystemShown(system).to_string(heap)
 }
