@@ -1,7 +1,7 @@
 // Shows what a card file is, `card_show FILE`, or where a trace leads, `card_show FILE ACTION...`; `card_show --two-counters` shows a built-in composition.
 #![tactic(auto)]
 
-use anyhow::anyhow;
+use anyhow::Context;
 use input::read_start;
 use layers::counter::Counter;
 use layers::hide::Hide;
@@ -15,12 +15,8 @@ use std::env;
 
 // Two counters of capacity 1, the second fed by the first: action 1, which hands over, is hidden.
 fn two_counters(heap: Global) -> anyhow::Result<String> {
-    let Ok(first) = Counter::new(1, 0, 1) else {
-        return Err(anyhow!("no such counter"));
-    };
-    let Ok(second) = Counter::new(1, 1, 2) else {
-        return Err(anyhow!("no such counter"));
-    };
+    let first = Counter::new(1, 0, 1)?;
+    let second = Counter::new(1, 1, 2)?;
     let between = ActionSet::from_bits(2);
     let both = Parallel::new(first, second, between);
     Ok(system_text(heap, &Hide::new(both, between))?)
@@ -28,31 +24,30 @@ fn two_counters(heap: Global) -> anyhow::Result<String> {
 
 // What a file is or, with a trace, where that leads.
 fn shown(rt: &HostRuntime, path: &str, trace: &[u8]) -> Result<String, AllocError> {
-    let mut bytes = [0; 1292];
-    let count = read_start(rt, path, &mut bytes);
+    // A file is read into fixed memory, as far as it is looked at: the public call fills a caller's buffer.
+    let mut buffer = [0; 1292];
+    let count = read_start(rt, path, &mut buffer);
+    let bytes = &buffer[..count];
     if trace.is_empty() {
-        file_text(rt.alloc(), &bytes[0..count])
+        file_text(rt.alloc(), bytes)
     } else {
-        trace_text(rt.alloc(), &bytes[0..count], trace)
+        trace_text(rt.alloc(), bytes, trace)
     }
 }
 
 fn run(rt: &HostRuntime) -> anyhow::Result<()> {
-    let mut args = env::args(rt)?;
-    let _program = args.next();
-    let Some(path) = args.next() else {
-        return Err(anyhow!("usage: card_show FILE [ACTION...], or card_show --two-counters"));
-    };
+    let mut args = env::args(rt)?.skip(1);
+    let path = args.next().context(
+        "usage: card_show FILE [ACTION...], or card_show --two-counters",
+    )?;
     if path.as_str() == "--two-counters" {
-        rt.print(two_counters(rt.alloc())?.as_str())?;
+        rt.print(two_counters(rt.alloc())?)?;
         return Ok(());
     }
-    let mut trace = Vec::new(rt.alloc());
-    for action in args {
-        trace.push(action.as_str().parse::<u8>()?)?;
-    }
-    let text = shown(rt, path.as_str(), trace.as_slice())?;
-    rt.print(text.as_str())?;
+    let trace: Vec<u8> = args
+        .map(|action| action.as_str().parse::<u8>().map_err(anyhow::Error::from))
+        .try_collect(rt.alloc())?;
+    rt.print(shown(rt, path.as_str(), trace.as_slice())?)?;
     Ok(())
 }
 

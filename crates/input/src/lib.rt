@@ -1,25 +1,31 @@
 // Files of bytes, as the programs read them.
 #![tactic(auto)]
 
-ghost use Rattle.std.specs.Prelude.{◌≤◌, length};
+ghost use Rattle.std.specs.Prelude.{◌≤◌, length, IfOk};
 
 use std::fs::File;
+use std::io;
 use std::io::Read;
 
-// Reads a file's bytes into the buffer, as many as there are and find room, and returns how many. A file that cannot be opened or read is empty.
+// Reads a file's bytes into the buffer, as many as there are and find room, and returns how many.
+fn fill(rt: &HostRuntime, path: &str, buffer: &mut [u8]) -> io::Result<usize>
+    ensures { IfOk result (λ n. n ≤ length buffer.old) }
+{
+    let mut file = File::open(rt, path)?;
+    let mut count = 0;
+    while count < buffer.len() {
+        let more = file.read(&mut buffer[count..])?;
+        if more == 0 {
+            break;
+        }
+        count += more;
+    }
+    Ok(count)
+}
+
+// The same, where a file that cannot be opened or read is empty.
 pub fn read_start(rt: &HostRuntime, path: &str, buffer: &mut [u8]) -> usize
     ensures { result ≤ length buffer.old }
 {
-    let Ok(mut file) = File::open(rt, path) else {
-        return 0;
-    };
-    let mut count = 0;
-    for _ in 0..buffer.len() {
-        match file.read(&mut buffer[count..]) {
-            Ok(0) => break,
-            Ok(more) => count += more,
-            Err(_) => return 0,
-        }
-    }
-    count
+    fill(rt, path, buffer).unwrap_or(0)
 }
