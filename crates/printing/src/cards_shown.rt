@@ -29,9 +29,7 @@ impl fmt::Display for CardShown<'_> {
         write!(f, "words")?;
         // The room that the most words take: the public call writes to a buffer of its caller's.
         let mut buffer = [0; 258];
-        let Ok(written) = card.write(&mut buffer) else {
-            unreachable()
-        };
+        let written = card.write(&mut buffer).unwrap();
         for &word in &buffer[..written] {
             write!(f, " {word:08X}")?;
         }
