@@ -51,6 +51,7 @@ impl WrittenTest {
     }
 }
 
+// Each question is handed on; to do that once for all that hold a system would need a trait with the same four questions.
 impl Lts for WrittenTest {
     ghost meaning = { λ t. test_system t };
 

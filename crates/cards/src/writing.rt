@@ -35,6 +35,7 @@ impl WrittenCard {
     }
 
     // Writes the words of the card with these passing states, and returns how many they are; a buffer that is too short stays as it is.
+    // A caller's buffer, here and in the public calls: writing wants no heap.
     pub(crate) fn write_as(&self, passing: StateSet, out: &mut [u32]) -> Result<usize, ShortBuffer>
         ensures told { result ≡ wrote (written (contents_with passing.bits self.now)) out.old }
         ensures after { out.new ≡ buffer (written (contents_with passing.bits self.now)) out.old }

@@ -23,7 +23,7 @@ fn fill(rt: &HostRuntime, path: &str, buffer: &mut [u8]) -> io::Result<usize>
     Ok(count)
 }
 
-// The same, where a file that cannot be opened or read is empty.
+// The same, where a file that cannot be opened or read is empty. It fills a caller's buffer, so that it wants no heap and cannot fail.
 pub fn read_start(rt: &HostRuntime, path: &str, buffer: &mut [u8]) -> usize
     ensures { result ≤ length buffer.old }
 {

@@ -32,6 +32,7 @@ pub fn compile<S: Lts + Drop>(system: S, heap: Global) -> Result<Compiled, S>
     compile_lent(&system, heap).map_err(|_| system)
 }
 
+// Each question is handed on; to do that once for all that hold a system would need a trait with the same four questions.
 impl Lts for Compiled {
     ghost meaning = { λ c. system_of c };
 
