@@ -1,5 +1,5 @@
 -- Loops over the sets of a family, step by step. Assumes nothing.
-use Rattle.std.proofs.Common.{◌≡◌, ℕ, suc, ◌+◌, Bool, true, false, cond, not, ◌&&◌, ◌||◌, nat_lt, eqb, ◌↔◌, Option, Some, None, unwrap_or, List, [], ◌∷◌, ◌++◌, length, take, drop, filter, vec_items, sym, refl, ap, ◌∙◌, arith}
+use Rattle.std.proofs.Common.{◌≡◌, ℕ, suc, ◌+◌, Bool, true, false, cond, not, ◌&&◌, ◌||◌, nat_lt, eqb, ◌↔◌, Option, Some, None, unwrap_or, List, [], ◌∷◌, ◌++◌, length, take, drop, filter, sym, refl, ap, ◌∙◌, arith}
 use Rattle.std.specs.List.{list_any, position_or_len}
 use Rattle.std.proofs.lemmas.List.{drop-map, map-append, take-map}
 use Rattle.std.proofs.lemmas.List.Sums.{prefix_len-le-length}
@@ -12,7 +12,6 @@ use Rattle.lts.specs.Sets.{within}
 use Rattle.traces.specs.Families.{antichain, covered, all_covered, without, placed, offered}
 use Rattle.traces.specs.Offered.{bits_of, free}
 use Rattle.lts.specs.SetTypes.{ActionSet}
-use Rattle.traces.specs.declared.family.Family.{Family}
 use Rattle.traces.proofs.Antichains.{antichain_none, families_equal}
 use Rattle.traces.proofs.Marks.{same_test}
 
@@ -56,10 +55,9 @@ without_kept x (s ∷ l) = pick (within x s.bits) (filter (free x) l) (without_k
     pick true k e = e
     pick false k e = ap (λ (xs : List ℕ). s.bits ∷ xs) e
 
--- what `==` says of two families
-pub same_equal : (x y : Family) (r : Bool) → r ≡ pointwise (λ a b. eqb a.bits b.bits) (vec_items x.sets) (vec_items y.sets)
-    → r ≡ true ↔ bits_of (vec_items x.sets) ≡ bits_of (vec_items y.sets)
-same_equal x y r e = rw (e ∙ same (vec_items x.sets) (vec_items y.sets)) (bytes_eq-Decides (bits_of (vec_items x.sets)) (bits_of (vec_items y.sets)))
+-- what `==` says of the sets of two families
+pub same_equal : (xs ys : List ActionSet) (r : Bool) → r ≡ pointwise (λ a b. eqb a.bits b.bits) xs ys → r ≡ true ↔ bits_of xs ≡ bits_of ys
+same_equal xs ys r e = rw (e ∙ same xs ys) (bytes_eq-Decides (bits_of xs) (bits_of ys))
   where
     same : (xs ys : List ActionSet) → pointwise (λ a b. eqb a.bits b.bits) xs ys ≡ bytes_eq (bits_of xs) (bits_of ys)
     same [] [] = refl
@@ -67,11 +65,11 @@ same_equal x y r e = rw (e ∙ same (vec_items x.sets) (vec_items y.sets)) (byte
     same (x ∷ xs) [] = refl
     same (x ∷ xs) (y ∷ ys) = ap (λ b. eqb x.bits y.bits && b) (same xs ys)
 
-pub same_covered : (x y : Family) (r : Bool) → r ≡ pointwise (λ a b. eqb a.bits b.bits) (vec_items x.sets) (vec_items y.sets)
-    → r ≡ (all_covered (bits_of (vec_items x.sets)) (bits_of (vec_items y.sets)) && all_covered (bits_of (vec_items y.sets)) (bits_of (vec_items x.sets)))
-same_covered x y r e =
-    let equal = same_equal x y r e in
-    let covers = families_equal (bits_of (vec_items x.sets)) (bits_of (vec_items y.sets)) x.apart y.apart in
+pub same_covered : (xs ys : List ActionSet) (r : Bool) → antichain (bits_of xs) ≡ true → antichain (bits_of ys) ≡ true → r ≡ pointwise (λ a b. eqb a.bits b.bits) xs ys
+    → r ≡ (all_covered (bits_of xs) (bits_of ys) && all_covered (bits_of ys) (bits_of xs))
+same_covered xs ys r a b e =
+    let equal = same_equal xs ys r e in
+    let covers = families_equal (bits_of xs) (bits_of ys) a b in
     same_test _ _ (λ t. covers.1 (equal.0 t)) (λ t. equal.1 (covers.0 t))
 
 -- one set more at a place

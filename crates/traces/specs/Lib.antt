@@ -3,6 +3,7 @@ pub mod Macrostates
 pub mod Families
 pub mod Graphs
 pub mod NodeTables
+pub mod TableSets
 pub mod Tables
 pub mod Derived
 pub mod Transitions

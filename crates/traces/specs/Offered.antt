@@ -1,7 +1,7 @@
 -- Lists of sets of actions as lists of numbers, and what a family's laws are. Assumes nothing.
-use Rattle.std.specs.Prelude.{◌≡◌, ℕ, Bool, not, List, map}
+use Rattle.std.specs.Prelude.{◌≡◌, ℕ, ◌≤◌, Bool, true, not, List, map}
 use Rattle.lts.specs.Sets.{Subset, within}
-use Rattle.traces.specs.Families.{Member}
+use Rattle.traces.specs.Families.{Member, antichain}
 use Rattle.lts.specs.SetTypes.{ActionSet}
 
 abbrev pub bits_of : List ActionSet → List ℕ
@@ -14,3 +14,9 @@ Incomparable l = (x y : ℕ) → Member x l → Member y l → Subset x y → x 
 -- s does not contain x
 unfoldable pub free : ℕ → ActionSet → Bool
 free x s = not (within x s.bits)
+
+-- what a family keeps of its sets, their number and the room set aside for them
+pub record Kept (sets : List ActionSet) (len capacity : ℕ) : Type 0 where
+  pub room : 64 ≤ capacity
+  pub few : len ≤ 64
+  pub apart : antichain (bits_of sets) ≡ true

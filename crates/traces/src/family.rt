@@ -1,19 +1,46 @@
 // Families of sets of actions in which no set contains another.
-ghost use Rattle.std.specs.Prelude.{◌≡◌, ℕ, ◌+◌, ◌<◌, ◌≤◌, Bool, true, ◌&&◌, ◌↔◌, [], ◌∷◌, ◌++◌, length, take, drop, IfOk, is_ok, if◌then◌else◌, vec_len, vec_capacity, nat_lt};
+ghost use Rattle.std.specs.Prelude.{◌≡◌, ◌==◌, ℕ, ◌+◌, ◌<◌, ◌≤◌, Bool, true, ◌&&◌, ◌↔◌, [], ◌∷◌, ◌++◌, length, take, drop, IfOk, is_ok, if◌then◌else◌, vec_len, vec_capacity, nat_lt};
 ghost use Rattle.traces.specs.Families.{covered as covered_by, all_covered, antichain, without, placed, offered};
 ghost use Rattle.lts.specs.Sets.{Ascending};
 ghost use Rattle.traces.specs.Offered.{bits_of, Incomparable};
+ghost use Rattle.std.specs.Cmp.Lexicographic.{pointwise};
+ghost use Rattle.std.specs.Cmp.Rules.{comparing};
+ghost use Rattle.std.proofs.Common.{rules};
 
 use lts::sets::ActionSet;
 use std::alloc::{AllocError, Global};
+use std::marker::Model;
 
 // At most 64 sets in rising order, none of which contains another. Room for all is set aside when the family is made.
-#[derive(PartialEq, Eq, Drop)]
+#[derive(Drop)]
 pub struct Family {
     sets: Vec<ActionSet>,
-    ghost room: { 64 ≤ vec_capacity sets },
-    ghost few: { vec_len sets ≤ 64 },
-    ghost apart: { antichain (bits_of sets.items) ≡ true },
+}
+
+// A family is seen as the list of its sets, which forgets the room: so `==`, which a derive could not read off it, stands below.
+impl Model for Family {
+    ghost use Rattle.std.specs.Prelude.{List, ℕ, vec_len, vec_capacity};
+    ghost use Rattle.traces.specs.Offered.{bits_of, Kept};
+
+    ghost Value = { List ℕ };
+
+    ghost view = { λ f. bits_of f.sets.items };
+
+    ghost invariant = { λ f. Kept f.sets.items (vec_len f.sets) (vec_capacity f.sets) };
+}
+
+impl PartialEq for Family {
+    ghost eq = { pointwise ◌==◌ };
+
+    ghost laws = { Prim.search (comparing, rules) };
+
+    fn eq(&self, other: &Family) -> bool {
+        self.same_as(other)
+    }
+}
+
+impl Eq for Family {
+    ghost laws = { Prim.search (comparing, rules) };
 }
 
 // A family of 64 members takes none.
@@ -48,7 +75,7 @@ fn enter(sets: &mut Vec<ActionSet>, offer: ActionSet)
 
 impl Family {
     pub fn new(heap: Global) -> Result<Family, AllocError>
-        ensures { IfOk result (λ f. bits_of f.sets.items ≡ []) }
+        ensures { IfOk result (λ f. f ≡ []) }
     {
         let sets = Vec::with_capacity(heap, 64)?;
         Ok(Family { sets })
@@ -56,16 +83,16 @@ impl Family {
 
     // The family with no set, its room kept.
     pub fn clear(&mut self)
-        ensures { bits_of self.new.sets.items ≡ [] }
+        ensures { self.new ≡ [] }
     {
         self.sets.clear();
     }
 
     // Enters an offer: nothing changes if it contains a member, else the members that contain it leave. A family of 64 members takes none.
     pub fn insert(&mut self, offer: ActionSet) -> Result<(), Full>
-        ensures room { is_ok result ≡ nat_lt (vec_len self.old.sets) 64 }
-        ensures after { bits_of self.new.sets.items ≡ (if is_ok result then offered offer.bits (bits_of self.old.sets.items) else bits_of self.old.sets.items) }
-        ensures len { vec_len self.new.sets ≤ vec_len self.old.sets + 1 }
+        ensures room { is_ok result ≡ nat_lt (length self.old) 64 }
+        ensures after { self.new ≡ (if is_ok result then offered offer.bits self.old else self.old) }
+        ensures len { length self.new ≤ length self.old + 1 }
     {
         if self.sets.len() >= 64 {
             return Err(Full);
@@ -76,18 +103,19 @@ impl Family {
 
     // The members in rising order.
     pub fn members(&self) -> &[ActionSet]
-        ensures value { result.now ≡ self.now.sets.items }
+        ensures value { bits_of result.now ≡ self.now }
         ensures rising { Ascending (bits_of result.now) }
         ensures apart { Incomparable (bits_of result.now) }
+        ensures few { length self.now ≤ 64 }
     {
         &self.sets
     }
 
     // Whether each member of either family contains a member of the other: since no member contains another, this is whether they have the same members.
     pub fn same_as(&self, other: &Family) -> bool
-        ensures value { result ≡ (all_covered (bits_of self.now.sets.items) (bits_of other.now.sets.items) && all_covered (bits_of other.now.sets.items) (bits_of self.now.sets.items)) }
-        ensures equal { result ≡ true ↔ bits_of self.now.sets.items ≡ bits_of other.now.sets.items }
+        ensures value { result ≡ (all_covered self.now other.now && all_covered other.now self.now) }
+        ensures equal { result ≡ true ↔ self.now ≡ other.now }
     {
-        self == other
+        self.sets == other.sets
     }
 }
