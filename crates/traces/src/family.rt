@@ -11,7 +11,8 @@ use lts::sets::ActionSet;
 use std::alloc::{AllocError, Global};
 use std::marker::Model;
 
-// At most 64 sets in rising order, none of which contains another. Room for all is set aside when the family is made.
+// At most 64 sets in rising order, none of which contains another. Room for all is set aside when the family is made, so that memory can be wanting
+// then alone; an array of fixed length in its place would leave the allocator of `new` without use.
 #[derive(Drop)]
 pub struct Family {
     sets: Vec<ActionSet>,
