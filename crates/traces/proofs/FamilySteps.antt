@@ -72,6 +72,14 @@ same_covered xs ys r a b e =
     let covers = families_equal (bits_of xs) (bits_of ys) a b in
     same_test _ _ (λ t. covers.1 (equal.0 t)) (λ t. equal.1 (covers.0 t))
 
+-- the same of what the families are seen as
+pub views_equal : (xs ys : List ActionSet) (a b : List ℕ) (r : Bool) → r ≡ pointwise (λ a b. eqb a.bits b.bits) xs ys → bits_of xs ≡ a → bits_of ys ≡ b → r ≡ true ↔ a ≡ b
+views_equal xs ys a b r e v w = rw (sym v, sym w) (same_equal xs ys r e)
+
+pub views_covered : (xs ys : List ActionSet) (a b : List ℕ) (r : Bool) → r ≡ pointwise (λ a b. eqb a.bits b.bits) xs ys → bits_of xs ≡ a → bits_of ys ≡ b
+    → antichain (bits_of xs) ≡ true → antichain (bits_of ys) ≡ true → r ≡ (all_covered a b && all_covered b a)
+views_covered xs ys a b r e v w k l = rw (sym v, sym w) (same_covered xs ys r k l e)
+
 -- one set more at a place
 bits_inserted : (l : List ActionSet) (i : ℕ) (s : ActionSet) → bits_of (take i l ++ s ∷ drop i l) ≡ take i (bits_of l) ++ s.bits ∷ drop i (bits_of l)
 bits_inserted l i s =
