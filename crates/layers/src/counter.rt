@@ -1,6 +1,6 @@
 // A bounded counter.
 ghost use Rattle.std.specs.Prelude.{◌≡◌, ◌≤◌, IfOk, Ok, Err};
-ghost use Rattle.layers.specs.Counter.{counter as counter_of, Counts, raised as raised_to, lowered as lowered_to, made, number as number_of};
+ghost use Rattle.layers.specs.Counter.{counter as counter_of, Counts, made, number as number_of};
 ghost use Rattle.layers.specs.Counters.{counter_lawful};
 ghost use Rattle.std.proofs.Common.{arith};
 
@@ -55,26 +55,6 @@ impl Counter {
             output,
         })
     }
-
-    fn raised(&self, state: usize, action: usize) -> StateSet
-        ensures { result.bits ≡ raised_to self.now.capacity self.now.input state action }
-    {
-        if action == self.input && state < self.capacity {
-            StateSet::from_bits(1 << (state + 1))
-        } else {
-            StateSet::empty()
-        }
-    }
-
-    fn lowered(&self, state: usize, action: usize) -> StateSet
-        ensures { result.bits ≡ lowered_to self.now.capacity self.now.output state action }
-    {
-        if action == self.output && state <= self.capacity && state > 0 {
-            StateSet::from_bits(1 << (state - 1))
-        } else {
-            StateSet::empty()
-        }
-    }
 }
 
 impl Lts for Counter {
@@ -93,8 +73,14 @@ impl Lts for Counter {
     }
 
     fn visible(&self, state: usize, action: usize) -> StateSet {
-        self.raised(state, action)
-            .union(self.lowered(state, action))
+        let mut states = StateSet::empty();
+        if action == self.input && state < self.capacity {
+            states.insert(state + 1);
+        }
+        if action == self.output && state <= self.capacity && state > 0 {
+            states.insert(state - 1);
+        }
+        states
     }
 
     fn hidden(&self, _state: usize) -> StateSet {

@@ -47,6 +47,7 @@ impl<C: Lts> Lts for Hide<C> {
         }
     }
 
+    // A union gathered in a loop of its own, for the reason told at `together` of a composition.
     fn hidden(&self, state: usize) -> StateSet {
         let mut states = self.inner.hidden(state);
         for action in self.actions.members() {

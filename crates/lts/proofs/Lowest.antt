@@ -2,12 +2,11 @@
 use Rattle.std.proofs.Common.{◌≡◌, ℕ, zero, suc, ◌+◌, ◌-◌, ◌/◌, ◌%◌, ◌^◌, ◌<◌, ◌≤◌, Bool, true, false, cond, eqb, ◌⊎◌, List, [], ◌∷◌, ◌++◌, map, length, sym, refl, ap, ◌∙◌, subst, ap₂, inl, inr, zero-le, pow-suc, div-one, arith}
 use mathlib.Core.List.{Memᴰ}
 use native.Mathlib.Nat.{zero-div}
-use lib.Bits.{bit_and, and_step, and_self, and_le_r}
+use lib.Bits.{bit_and, and_step, and_self}
 use lib.Count.{count_trailing_zeros, ones, ones_in, ones_step, ones-le}
 use lib.ListN.{length-map}
 use Rattle.std.proofs.lemmas.Bool.{cases_eq}
 use Rattle.lts.specs.Sets.{In, has, members_from, members, Above, Ascending, Lists}
-use Rattle.lts.specs.Unions.{Lowest}
 use Rattle.lts.proofs.Membership.{half, has_in, in_has, members_below}
 
 odd : (n s : ℕ) → s % 2 ≡ 1 → count_trailing_zeros (suc n) s ≡ 0
@@ -191,20 +190,6 @@ ones_members (suc n) s h =
 
 pub members_few : (s : ℕ) → s < 2 ^ 64 → length (members s) ≤ 64
 members_few s h = omega (arith, ones_members 64 s h, ones-le 64 s h)
-
-lowest_below : (s : ℕ) → 0 < s → s < 2 ^ 64 → count_trailing_zeros 64 s < 64
-lowest_below s h l =
-    let e = members_lowest 64 s h l in
-    let m : Memᴰ (count_trailing_zeros 64 s) (members s) = subst (Memᴰ (count_trailing_zeros 64 s)) (sym e) (mathlib.Core.List.Memᴰ.head refl) in
-    members_below 64 s (count_trailing_zeros 64 s) l (((lists 64 s l).exact (count_trailing_zeros 64 s)).0 m)
-
--- the lowest member and what is left, as a program takes it off
-pub take_lowest : (s : ℕ) → 0 < s → s < 2 ^ 64 → Lowest s (count_trailing_zeros 64 s) (bit_and s (s - 1))
-take_lowest s h l = record {
-  taken = members_lowest 64 s h l;
-  below = lowest_below s h l;
-  fewer = omega (arith, and_le_r s (s - 1));
-}
 
 -- the members among n + 1 numbers: those among n, and the last
 pub members_last : (n k j s : ℕ) → j ≡ k + n → members_from k (suc n) s ≡ members_from k n s ++ cond (has j s) (j ∷ []) []
