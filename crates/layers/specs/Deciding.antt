@@ -1,16 +1,9 @@
 -- Sets that are given by tests: their members through what the tests decide. Assumes nothing.
-use Rattle.std.specs.Prelude.{◌≡◌, ℕ, ◌^◌, ◌<◌, ◌≤◌, Bool, true, false, cond, T, ◌↔◌, Decides, nat_le, refl}
+use Rattle.std.specs.Prelude.{◌≡◌, ℕ, ◌^◌, ◌<◌, ◌≤◌, Bool, true, false, cond, ◌↔◌, Decides, nat_le, refl}
 use Rattle.std.proofs.Common.{sym, subst, le-leb, leb-true}
 use Rattle.std.proofs.lemmas.Bool.{false≢true}
 use Rattle.lts.specs.Sets.{In, has, set_of}
-use Rattle.lts.proofs.Membership.{in_set, set_in, alone_in, in_alone, not_empty, has_in, in_has}
-
-holds : (b : Bool) → T b → b ≡ true
-holds true t = refl
-holds false t = absurd t
-
-T_of : (b : Bool) → b ≡ true → T b
-T_of b e = subst T (sym e) tt
+use Rattle.lts.proofs.Membership.{true_T, T_true, in_set, set_in, alone_in, in_alone, not_empty, has_in, in_has}
 
 pub decides_has : (q s : ℕ) → Decides (has q s) (In q s)
 decides_has q s = (has_in q s, in_has q s)
@@ -21,15 +14,15 @@ decides_leb m n = (leb-true m n, le-leb m n)
 -- the set of k alone, if a test passes
 pub only_members : {P : Type 0} (b : Bool) (q k : ℕ) → Decides b P → In q (cond b (2 ^ k) 0) ↔ P × (q ≡ k)
 only_members b q k d = (
-  λ h. (let a = alone_in b q k h in (d.0 (holds b a.0), a.1)),
-  λ h. subst (λ x. In x (cond b (2 ^ k) 0)) (sym h.1) (in_alone b k (T_of b (d.1 h.0))),
+  λ h. (let a = alone_in b q k h in (d.0 (true_T b a.0), a.1)),
+  λ h. subst (λ x. In x (cond b (2 ^ k) 0)) (sym h.1) (in_alone b k (T_true b (d.1 h.0))),
 )
 
 -- the set of the numbers below n at which a test passes
 pub set_members : {P : Type 0} (f : ℕ → Bool) (n q : ℕ) → Decides (f q) P → In q (set_of f n) ↔ (q < n) × P
 set_members f n q d = (
-  λ h. (let a = in_set f n q h in (a.0, d.0 (holds (f q) a.1))),
-  λ h. set_in f n q h.0 (T_of (f q) (d.1 h.1)),
+  λ h. (let a = in_set f n q h in (a.0, d.0 (true_T (f q) a.1))),
+  λ h. set_in f n q h.0 (T_true (f q) (d.1 h.1)),
 )
 
 -- a set if a test passes, and a set unless it does

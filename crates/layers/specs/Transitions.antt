@@ -1,19 +1,14 @@
 -- A system is lawful exactly when its transitions, one by one, stay within it. Assumes nothing.
 use Rattle.std.specs.Prelude.{◌≡◌, ℕ, zero, suc, ◌/◌, ◌^◌, ◌<◌, ◌≤◌}
 use Rattle.std.proofs.Common.{inl, inr, pow-suc, le_of_suc-le-suc, not-suc-le-zero, arith}
-use Rattle.std.proofs.Math.Decide.{ℕ_discrete}
 use Rattle.std.proofs.lemmas.Bool.{cases_lt}
 use Rattle.lts.specs.Sets.{In}
 use Rattle.lts.specs.System.{System, Lawful}
-use Rattle.lts.proofs.Membership.{some_member, not_empty, in_suc, members_below}
-
--- a set without a member is empty
-pub empty : (s : ℕ) → ((q : ℕ) → ¬ In q s) → s ≡ 0
-empty s h = elim (ℕ_discrete s 0) [ yes e ↦ e | no d ↦ (let m = some_member s d in absurd (h m.0 m.1)) ]
+use Rattle.lts.proofs.Membership.{empty_set, not_empty, in_suc, members_below}
 
 -- a set whose members are below n is below 2 ^ n
 bounded : (n s : ℕ) → ((q : ℕ) → In q s → q < n) → s < 2 ^ n
-bounded zero s h = let e = empty s (λ q i. not-suc-le-zero (h q i)) in omega arith
+bounded zero s h = let e = empty_set s (λ q i. not-suc-le-zero (h q i)) in omega arith
 bounded (suc n) s h =
     let b : s / 2 < 2 ^ n = bounded n (s / 2) (λ q i. le_of_suc-le-suc (h (suc q) (in_suc q s i))) in
     let p = pow-suc 2 n in
@@ -50,7 +45,7 @@ lawful_within m s v h = record {
   starts = s;
   visible_below = λ p a. bounded m.count _ (λ q i. (v p a q i).1);
   hidden_below = λ p. bounded m.count _ (λ q i. (h p q i).1);
-  visible_outside = λ p a o. empty _ (λ q i. (let b = v p a q i in omega arith));
-  hidden_outside = λ p o. empty _ (λ q i. (let b = h p q i in omega arith));
-  no_action = λ p a o. empty _ (λ q i. (let b = v p a q i in omega arith));
+  visible_outside = λ p a o. empty_set _ (λ q i. (let b = v p a q i in omega arith));
+  hidden_outside = λ p o. empty_set _ (λ q i. (let b = h p q i in omega arith));
+  no_action = λ p a o. empty_set _ (λ q i. (let b = v p a q i in omega arith));
 }

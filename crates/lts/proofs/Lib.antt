@@ -2,3 +2,4 @@ pub mod Membership
 pub mod Lowest
 pub mod Order
 pub mod Unions
+pub mod Taken

@@ -47,6 +47,17 @@ digit : (b : Bool) (x : ℕ) → (cond b 1 0 + 2 * x) / 2 ≡ x
 digit true x = omega arith
 digit false x = omega arith
 
+-- a set with no member is empty
+pub empty_set : (s : ℕ) → ((q : ℕ) → ¬ In q s) → s ≡ 0
+empty_set s f = same_members s 0 (λ q h. absurd (f q h)) (λ q h. absurd (not_empty q 0 h refl))
+
+pub true_T : (b : Bool) → T b → b ≡ true
+true_T true t = refl
+true_T false t = absurd t
+
+pub T_true : (b : Bool) → b ≡ true → T b
+T_true b e = subst T (sym e) tt
+
 odd_if : (b : Bool) (x : ℕ) → (cond b 1 0 + 2 * x) % 2 ≡ 1 → T b
 odd_if true x h = tt
 odd_if false x h = omega arith
@@ -69,6 +80,17 @@ set_in f zero k b t = absurd (not-suc-le-zero b)
 set_in f (suc n) zero b t = in_zero (set_of f (suc n)) (if_odd (f 0) (set_of (λ j. f (suc j)) n) t)
 set_in f (suc n) (suc k) b t =
     in_suc k (set_of f (suc n)) (subst (λ (s : ℕ). In k s) (sym (digit (f 0) (set_of (λ j. f (suc j)) n))) (set_in (λ j. f (suc j)) n k (le_of_suc-le-suc b) t))
+
+digit_below : (b : Bool) (x y z : ℕ) → x < y → z ≡ 2 * y → cond b 1 0 + 2 * x < z
+digit_below true x y z l e = omega arith
+digit_below false x y z l e = omega arith
+
+pub set_below : (f : ℕ → Bool) (n : ℕ) → set_of f n < 2 ^ n
+unfolding set_of
+set_below f zero = omega arith
+set_below f (suc n) =
+    let p = pow-suc 2 n in
+    digit_below (f 0) (set_of (λ q. f (suc q)) n) (2 ^ n) (2 ^ suc n) (set_below (λ q. f (suc q)) n) (omega arith)
 
 pub in_power : (k : ℕ) → In k (2 ^ k)
 in_power k = ap (λ (x : ℕ). x % 2) (div_self (pow_pos k))
