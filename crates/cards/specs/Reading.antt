@@ -12,7 +12,7 @@ use Rattle.cards.specs.declared.lines.Role.{Role}
 use Rattle.cards.specs.declared.lines.Role.TheVariants.{Test}
 use Rattle.cards.specs.declared.lines.Word.{Word}
 use Rattle.cards.specs.declared.lines.Word.TheVariants.{Line, Passing, End}
-use Rattle.cards.specs.Words.{bits, kind, decode}
+use Rattle.cards.specs.Words.{bits, kind, head_word, decode}
 
 abbrev pub fault : {A : Type 0} → Reason → ℕ → Result A WordFault
 fault r i = Err (record { reason = r; place = i })
@@ -28,6 +28,10 @@ head_fits h = nat_lt 0 h.states && nat_le h.states 64 && nat_lt h.start h.states
 -- the first word
 abbrev pub checked_head : ℕ → Result Head Reason
 checked_head w = cond (kind w == 1) (cond (head_fits (head_of w)) (Ok (head_of w)) (Err Range)) (Err Kind)
+
+-- the word of a head, where its numbers are in range
+abbrev pub encoded_head : Head → Result ℕ Reason
+encoded_head h = cond (head_fits h) (Ok (head_word h.lines h.start h.states)) (Err Range)
 
 -- the states that a part names are below the number of states
 abbrev pub within : ℕ → Word → Bool

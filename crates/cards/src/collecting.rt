@@ -7,23 +7,6 @@ use crate::lines::*;
 use crate::words::decode;
 use lts::sets::StateSet;
 
-// Adds what one part names.
-#[tactic(auto, unfolding(crate::specs::Contents::with_all))]
-fn put(lines: &mut Vec<Line>, passing: &mut StateSet, part: Word)
-    requires { length (lines.old.items ++ as_line (Some part) []) ≤ vec_capacity lines.old }
-    ensures lines { lines.new.items ≡ lines.old.items ++ as_line (Some part) [] }
-    ensures room { vec_capacity lines.new ≡ vec_capacity lines.old }
-    ensures passing { passing.new.bits ≡ with_all passing.old.bits (as_passing (Some part) []) }
-{
-    match part {
-        Word::Line(line) => lines.push_reserved(line),
-        Word::Passing(state) => {
-            passing.insert(usize::from(state));
-        }
-        Word::End => {}
-    }
-}
-
 // Puts the lines that the words name in place of those before, and returns the passing states that they name.
 pub(crate) fn collect(lines: &mut Vec<Line>, words: &[u32]) -> StateSet
     requires { length (lines_in words.now) ≤ vec_capacity lines.old }
@@ -34,8 +17,13 @@ pub(crate) fn collect(lines: &mut Vec<Line>, words: &[u32]) -> StateSet
     lines.clear();
     let mut passing = StateSet::empty();
     for word in words {
-        if let Some(part) = decode(Role::Test, *word) {
-            put(lines, &mut passing, part);
+        match decode(Role::Test, *word) {
+            Some(Word::Line(line)) => lines.push_reserved(line),
+            Some(Word::Passing(state)) => {
+                passing.insert(usize::from(state));
+            }
+            Some(Word::End) => {}
+            None => {}
         }
     }
     passing

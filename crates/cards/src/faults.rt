@@ -42,7 +42,7 @@ pub struct CardFault {
     pub word: WordFault,
 }
 
-// A refused left file of two. One type for both sides would be no plainer: it would need a marker for the side, on which `?` chooses.
+// A refused left file of two. A rule of the project: a fault is kept as a left or a right one inside the fault that names the side, so that `?` turns it by `From`.
 #[derive(Clone, Copy, PartialEq, Eq, Debug)]
 pub struct LeftFault {
     pub card: CardFault,

@@ -1,6 +1,6 @@
 // Checking the words of a card or a test.
 ghost use Rattle.std.specs.Prelude.{◌≡◌, ℕ, ◌+◌, ◌*◌, ◌^◌, ◌<◌, ◌≤◌};
-ghost use Rattle.cards.specs.Reading.{head_fits, checked_head as head_checked, within as within_in, counted as counted_in, judged, onward, step as stepped, ended as ended_in, check as checked};
+ghost use Rattle.cards.specs.Reading.{head_fits, checked_head as head_checked, encoded_head, within as within_in, counted as counted_in, judged, onward, step as stepped, ended as ended_in, check as checked};
 ghost use Rattle.cards.specs.Words.{decode as decoded};
 
 use crate::faults::{Reason, WordFault};
@@ -34,6 +34,25 @@ impl TryFrom<u32> for Head {
             return Err(Reason::Range);
         };
         Ok(head)
+    }
+}
+
+// Its inverse. No `From`, which cannot refuse: a head may hold numbers that have no room in a word.
+impl TryFrom<Head> for u32 {
+    type Error = Reason;
+
+    ghost try_from_gives = { λ head word. word ≡ encoded_head head };
+
+    fn try_from(head: Head) -> Result<u32, Reason> {
+        if !head.fits() {
+            return Err(Reason::Range);
+        }
+        let Head {
+            lines,
+            start,
+            states,
+        } = head;
+        Ok(0x1000_0000 + lines as u32 * 0x1_0000 + start as u32 * 0x100 + states as u32)
     }
 }
 
@@ -99,7 +118,7 @@ impl Body {
 }
 
 impl Progress {
-    // One word more.
+    // One word more, by where reading stands. A rule of the project: one `for` goes over all words, with the fault's place beside it, and no loop for each part.
     fn step(self, role: Role, word: u32) -> Result<Progress, Reason>
         ensures { result ≡ stepped role self word }
     {

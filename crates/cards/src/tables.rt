@@ -8,6 +8,7 @@ use std::alloc::{AllocError, Global};
 
 impl Label {
     // Its column in a row of 33: the actions, and last what is silent.
+    // A number, since a field of its own for what is silent would be no plainer: filling a row and looking into one would each need this match.
     fn column(self) -> usize
         ensures { result ≡ column_of self }
     {

@@ -15,6 +15,7 @@ use lts::sets::StateSet;
 use lts::system::{Lts, Test};
 use std::alloc::{AllocError, Global};
 
+// `new`, `read` and `write` are public calls of cards and of tests, each one call of what both share; one generic form would be no plainer: a trait of both would have to repeat these clauses.
 impl WrittenTest {
     // A blank test: one state, no lines, and nothing passes. All its memory is set aside here.
     pub fn new(heap: Global) -> Result<WrittenTest, AllocError>
@@ -51,7 +52,7 @@ impl WrittenTest {
     }
 }
 
-// Each question is handed on; to do that once for all that hold a system would need a trait with the same four questions.
+// Each question is handed on; one impl for all that hold a system would be no plainer: it needs a trait that hands out the system, with an impl for each holder.
 impl Lts for WrittenTest {
     ghost meaning = { λ t. test_system t };
 

@@ -18,12 +18,12 @@ impl WrittenCard {
         ensures { result.items ≡ written (contents_with passing.bits self.now) }
     {
         let mut words = ArrayVec::<u32, MOST_WORDS>::new();
-        words.push(
-            0x1000_0000
-                + self.lines.len() as u32 * 0x1_0000
-                + self.start as u32 * 0x100
-                + self.states as u32,
-        );
+        let head = Head {
+            lines: self.lines.len(),
+            start: self.start,
+            states: self.states,
+        };
+        words.push(u32::try_from(head).unwrap());
         for line in &self.lines {
             words.push(u32::from(*line));
         }
