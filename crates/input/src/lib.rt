@@ -13,6 +13,7 @@ fn fill(rt: &HostRuntime, path: &str, buffer: &mut [u8]) -> io::Result<usize>
 {
     let mut file = File::open(rt, path)?;
     let mut count = 0;
+    // Until nothing more comes or the buffer is full. A `for` would be no plainer: it would count rounds that nobody asks for.
     while count < buffer.len() {
         let more = file.read(&mut buffer[count..])?;
         if more == 0 {

@@ -1,5 +1,5 @@
 -- Any system as text, by its transitions. Assumes nothing.
-use Rattle.std.specs.Prelude.{ℕ, zero, suc, ◌+◌, ◌*◌, ◌/◌, ◌%◌, List, [], ◌++◌, codes, decimal}
+use Rattle.std.specs.Prelude.{ℕ, zero, suc, ◌+◌, List, [], ◌++◌, codes, decimal}
 use Rattle.std.specs.List.{flat_map}
 use Rattle.cards.specs.declared.lines.Label.{Label}
 use Rattle.cards.specs.declared.lines.Label.TheVariants.{Action, Silent}
@@ -16,9 +16,13 @@ unfoldable pub text_from : (ℕ → List ℕ) → ℕ → ℕ → List ℕ
 text_from f k zero = []
 text_from f k (suc n) = f k ++ text_from f (k + 1) n
 
--- where action k % 32 leads from state k / 32: so the places k go through each state's actions, state by state
+-- where the first n actions lead from p, one after another
+abbrev pub actions_text : System → ℕ → ℕ → List ℕ
+actions_text m p n = text_from (λ a. targets_text p (Action a) (members (m.visible p a))) 0 n
+
+-- where all actions lead from p
 abbrev pub visible_text : System → ℕ → List ℕ
-visible_text m k = targets_text (k / 32) (Action (k % 32)) (members (m.visible (k / 32) (k % 32)))
+visible_text m p = actions_text m p 32
 
 -- where silent transitions lead from p
 abbrev pub silent_text : System → ℕ → List ℕ
@@ -29,4 +33,4 @@ system_head m = codes "states " ++ (decimal m.count ++ (codes " start " ++ (deci
 
 -- the states and the start, then each state's transitions by their actions, then the silent ones
 unfoldable pub system_text : System → List ℕ
-system_text m = system_head m ++ (text_from (visible_text m) 0 (32 * m.count) ++ text_from (silent_text m) 0 m.count)
+system_text m = system_head m ++ (text_from (visible_text m) 0 m.count ++ text_from (silent_text m) 0 m.count)

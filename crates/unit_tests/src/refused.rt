@@ -14,6 +14,7 @@ struct Refusal {
     reason: Reason,
 }
 
+// One function for cards and tests would be no plainer: no trait has the `read` and `write` of both, and each is asked something else afterwards.
 impl Refusal {
     // The words are no card, and the card that was read before stays: action 0 leads from state 0 to state 1.
     fn card(self, rt: &impl Abort, place: usize, words: &[u32]) -> Result<(), Fail> {
