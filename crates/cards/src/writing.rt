@@ -23,6 +23,7 @@ impl WrittenCard {
             start: self.start,
             states: self.states,
         };
+        // Its numbers are in range, as the card keeps them.
         words.push(u32::try_from(head).unwrap());
         for line in &self.lines {
             words.push(u32::from(*line));
