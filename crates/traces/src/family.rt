@@ -98,6 +98,7 @@ impl Family {
     }
 
     // Whether each member of either family contains a member of the other: since no member contains another, this is whether they have the same members.
+    // `==` is the same; this name is a call of the outside interface, and promises the containments too.
     pub fn same_as(&self, other: &Family) -> bool
         ensures value { result ≡ (all_covered self.now other.now && all_covered other.now self.now) }
         ensures equal { result ≡ true ↔ self.now ≡ other.now }
