@@ -79,7 +79,7 @@ impl Family {
         if self.sets.len() >= 64 {
             return Err(Full);
         }
-        if !is_covered(offer, &self.sets) {
+        if !is_covered(offer, self.members()) {
             self.sets.retain(|set| !offer.is_within(*set));
             let place = self.sets.partition_point(|set| set.bits() < offer.bits());
             let _ = self.sets.insert(place, offer);

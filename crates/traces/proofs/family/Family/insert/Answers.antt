@@ -16,9 +16,9 @@ entered c =
     let x = c.args.offer.bits in
     let l = vec_items c.self.inside.sets in
     let left = vec_items c.retain.new.self in
-    let row = c.deref-then-not-is_covered.result.now in
-    let same = c.deref-then-not-is_covered.ensures.value in
-    let new : covered x (bits_of l) ≡ false = sym (c.if-not-is_covered.ensures ∙ ap (λ k. covered x (bits_of k)) c.deref.ensures.value) in
+    let row = c.deref.result.now in
+    let same = c.deref.ensures.value in
+    let new : covered x (bits_of l) ≡ false = sym (c.if-not-is_covered.ensures ∙ ap (covered x) (c.members.ensures.value ∙ sym c.self.view_is)) in
     let kept : left ≡ filter (free x) l = filter_same _ (free x) _ (λ x b f' k. search rules) _ _ c.retain.ensures.filtered in
     let point = IsPartitionPoint-from_clause (λ s. nat_lt s.bits x) row _ c.partition_point-place.ensures.partitioned
     (parted x row (left_apart x l row (same ∙ kept) c.self.invariant.apart)) (λ a r q k. search (rules, tests)) in
@@ -43,4 +43,4 @@ pub returns-else-not-is_covered-clause-after : goal.returns-else-not-is_covered-
 returns-else-not-is_covered-clause-after c =
     let x = c.args.offer.bits in
     let l = vec_items c.self.inside.sets in
-    sym c.self.view_is ∙ (offered_known x l (sym (c.if-not-is_covered.ensures ∙ ap (λ k. covered x (bits_of k)) c.deref.ensures.value)) ∙ ap (offered x) c.self.view_is)
+    sym c.self.view_is ∙ (offered_known x l (sym (c.if-not-is_covered.ensures ∙ ap (covered x) (c.members.ensures.value ∙ sym c.self.view_is))) ∙ ap (offered x) c.self.view_is)
