@@ -1,11 +1,12 @@
 // Cards and tests as files of bytes, words with their low byte first.
-ghost use Rattle.std.specs.Prelude.{◌≡◌, ℕ, ◌≤◌, map, length, Err, MatchResult};
+ghost use Rattle.std.specs.Prelude.{◌≡◌, ℕ, ◌≤◌, map, length, Err, MatchResult, OnOk};
 ghost use Rattle.std.specs.Int.{w32, from_le_bytes};
 ghost use Rattle.cards.specs.Bytes.{file_words as words_in, in_card, read_bytes};
-ghost use Rattle.cards.specs.Cards.{contents, told, after};
-ghost use Rattle.cards.specs.Tests.{test_contents};
+ghost use Rattle.cards.specs.Cards.{contents, system, told, after};
+ghost use Rattle.cards.specs.Tests.{test_contents, test_system};
+ghost use Rattle.cards.specs.Meaning.{Says, SaysPassing};
 ghost use Rattle.cards.specs.declared.lines.Role.TheVariants.{Card, Test as TestRole};
-ghost use Rattle.cards.specs.Contents.{read_words};
+ghost use Rattle.cards.specs.Contents.{read_words, written};
 
 use crate::faults::*;
 use crate::lines::Role;
@@ -63,6 +64,8 @@ impl WrittenCard {
     pub fn read_bytes(&mut self, bytes: &[u8]) -> Result<(), CardFault>
         ensures told { result ≡ told (read_bytes Card bytes.now) }
         ensures after { contents self.new ≡ after (contents self.old) (read_bytes Card bytes.now) }
+        ensures written { OnOk result (written (contents self.new) ≡ words_in bytes.now) }
+        ensures says { OnOk result (Says (words_in bytes.now) (system self.new)) }
     {
         let words = file_words(Role::Card, bytes)?;
         self.read(words.as_slice())?;
@@ -76,6 +79,9 @@ impl WrittenTest {
     pub fn read_bytes(&mut self, bytes: &[u8]) -> Result<(), CardFault>
         ensures told { result ≡ told (read_bytes TestRole bytes.now) }
         ensures after { test_contents self.new ≡ after (test_contents self.old) (read_bytes TestRole bytes.now) }
+        ensures written { OnOk result (written (test_contents self.new) ≡ words_in bytes.now) }
+        ensures says { OnOk result (Says (words_in bytes.now) (test_system self.new)) }
+        ensures passing { OnOk result (SaysPassing (words_in bytes.now) self.new.passing.bits) }
     {
         let words = file_words(Role::Test, bytes)?;
         self.read(words.as_slice())?;

@@ -1,9 +1,11 @@
 // Making, reading and asking written cards.
-ghost use Rattle.std.specs.Prelude.{◌≡◌, ℕ, ◌≤◌, [], length, IfOk, Ok, Err, MatchResult, OnErr, OnOk};
+ghost use Rattle.std.specs.Prelude.{◌≡◌, ℕ, ◌≤◌, true, [], length, map, IfOk, Ok, Err, MatchResult, OnErr, OnOk};
 ghost use Rattle.cards.specs.declared.lines.Role.TheVariants.{Card};
 ghost use Rattle.cards.specs.Cards.{contents, contents_with, system, told, after};
 ghost use Rattle.cards.specs.Contents.{read_words, written, wrote, buffer};
+ghost use Rattle.cards.specs.Lines.{rising};
 ghost use Rattle.cards.specs.Meaning.{Says};
+ghost use Rattle.cards.specs.Words.{line_word};
 ghost use Rattle.cards.specs.Holding.{held_lawful};
 
 use crate::collecting::collect;
@@ -34,7 +36,8 @@ impl WrittenCard {
 
     // The lines, in the order of their words.
     pub fn lines(&self) -> &[Line]
-        ensures { result.now ≡ (contents self.now).lines }
+        ensures value { result.now ≡ (contents self.now).lines }
+        ensures rising { rising 0 (map line_word result.now) ≡ true }
     {
         self.lines.as_slice()
     }

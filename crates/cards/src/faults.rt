@@ -1,6 +1,6 @@
 // Why words are refused, and how a word's fault travels: inside its card's, and that inside the fault that names the side.
 ghost use Rattle.std.specs.Prelude.{◌≡◌};
-ghost use Rattle.cards.specs.Faults.{number as number_of};
+ghost use Rattle.cards.specs.Faults.{number as number_of, short_buffer};
 ghost use Rattle.cards.specs.declared.faults.SideFault.TheVariants.{Left, Right};
 
 // Why a word is refused.
@@ -64,6 +64,15 @@ pub enum SideFault {
 // A buffer that is too short for what is to be written.
 #[derive(Clone, Copy, PartialEq, Eq, Debug)]
 pub struct ShortBuffer;
+
+impl ShortBuffer {
+    // The number under which the refusal is told.
+    pub fn number(self) -> u8
+        ensures { result ≡ short_buffer }
+    {
+        8
+    }
+}
 
 // By hand and not derived, since a contract names the error that a `?` makes: so each has a `from_gives`.
 impl From<WordFault> for CardFault {

@@ -27,7 +27,7 @@ returns-clause-writes g c p k =
     let count : Ok c.unwrap-written.result ≡ wrote (written s) (replicate 258 0) = sym c.unwrap-written.ensures ∙ c.write-2.ensures.told in
     let head : HasWritten g.W.Write.write_str_gives c.args.f.now (head_text s) c.writeln.new.self = search rules in
     let lines : HasWritten g.W.Write.write_str_gives c.writeln.new.self (lines_text s.lines) c.loop-line.f =
-    has_written_of_eq _ _ _ _ _ (each_done line_text _ s.lines _ (omega arith) c.lines-lines.ensures) (c.loop-line.invariant head.plain) in
+    has_written_of_eq _ _ _ _ _ (each_done line_text _ s.lines _ (omega arith) c.lines-lines.ensures.value) (c.loop-line.invariant head.plain) in
     let label : HasWritten g.W.Write.write_str_gives c.loop-line.f (codes "words") c.write.new.self = search rules in
     let words : HasWritten g.W.Write.write_str_gives c.write.new.self (words_text (written s)) c.loop-word.f =
     has_written_of_eq _ _ _ _ _ (each_done (λ (w : ℕ). codes " " ++ hex_word w) _ (written s) _ (omega arith) (front (written s) (replicate 258 0) c.write-2.new.out c.unwrap-written.result count c.write-2.ensures.after)) (c.loop-word.invariant label.plain) in
