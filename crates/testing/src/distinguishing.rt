@@ -7,11 +7,12 @@ use lts::sets::{ActionSet, StateSet};
 use lts::system::{Lts, Test};
 use thiserror::Error;
 
-// The most actions of a trace: the test has two states more, of 64 at most.
+// The most actions of a trace: the test has two states more than that, and a system has at most 64.
 const MOST_ACTIONS: usize = 62;
 
-// States 0 to n + 1 for a trace of n actions, of which only the last passes: the actions lead from each state up to n to the next. The trace
-// stands in the value itself, so that filling wants no memory.
+// For a trace of n actions it has the states 0 to n + 1, starts at 0 and passes at n + 1 alone; the actions lead from each state up to n to the next.
+// Reach adds a silent step from n to n + 1, Settle one from every state up to n, and Offer one from every state below n, while each action of its set
+// leads from n to n + 1. The trace stands in the value itself, so that filling wants no memory.
 #[derive(Drop)]
 pub struct DistinguishingTest {
     ground: Ground,
