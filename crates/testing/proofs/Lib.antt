@@ -13,3 +13,4 @@ pub mod OfferRule
 pub mod Judged
 pub mod SetLists
 pub mod Carried
+mod Rungs

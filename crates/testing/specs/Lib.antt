@@ -5,3 +5,5 @@ pub mod Theorems
 pub mod Rule
 pub mod Judging
 pub mod Laws
+pub mod Filling
+pub mod TestsLawful
