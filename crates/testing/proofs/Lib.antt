@@ -13,3 +13,5 @@ pub mod OfferRule
 pub mod Judged
 pub mod SetLists
 pub mod Carried
+pub mod Pairs
+pub mod JointRuns

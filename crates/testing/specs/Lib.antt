@@ -5,3 +5,6 @@ pub mod Theorems
 pub mod Rule
 pub mod Judging
 pub mod Laws
+pub mod JointPairs
+pub mod PairLaws
+pub mod Experiments
