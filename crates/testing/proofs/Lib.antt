@@ -15,3 +15,4 @@ pub mod SetLists
 pub mod Carried
 pub mod Pairs
 pub mod JointRuns
+pub mod PairSets

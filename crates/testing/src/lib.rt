@@ -2,6 +2,7 @@
 #![tactic(auto)]
 
 pub mod ground;
+mod joint_pairs;
 pub mod passing;
 pub mod splitting;
 #[cfg(test)]
