@@ -16,3 +16,5 @@ pub mod Carried
 pub mod Pairs
 pub mod JointRuns
 pub mod PairSets
+pub mod PairSearch
+pub mod Telling

@@ -1,9 +1,11 @@
 // Testing: why a trace splits two systems, and the theorems that tie traces to tests.
 #![tactic(auto)]
 
+pub mod experiment;
 pub mod ground;
 mod joint_pairs;
 pub mod passing;
+mod searching;
 pub mod splitting;
 #[cfg(test)]
 mod tests;
