@@ -14,3 +14,8 @@ pub mod Judged
 pub mod SetLists
 pub mod Carried
 mod Rungs
+pub mod Pairs
+pub mod JointRuns
+pub mod PairSets
+pub mod PairSearch
+pub mod Telling

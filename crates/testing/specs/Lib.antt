@@ -7,3 +7,6 @@ pub mod Judging
 pub mod Laws
 pub mod Filling
 pub mod TestsLawful
+pub mod JointPairs
+pub mod PairLaws
+pub mod Experiments

@@ -4,8 +4,11 @@
 pub mod distinguishing;
 #[cfg(test)]
 mod distinguishing_tests;
+pub mod experiment;
 pub mod ground;
+mod joint_pairs;
 pub mod passing;
+mod searching;
 pub mod splitting;
 #[cfg(test)]
 mod tests;
