@@ -1,10 +1,12 @@
 // The distinguishing test of a ground and a trace.
-ghost use Rattle.std.specs.Prelude.{◌≡◌, ◌≤◌, length, [], OnOk};
+ghost use Rattle.std.specs.Prelude.{◌≡◌, ◌≤◌, length, [], OnOk, IfOk, true, ◌↔◌};
 
+use crate::experiment::{ExperimentFault, experiment};
 use crate::ground::Ground;
 use arrayvec::ArrayVec;
 use lts::sets::{ActionSet, StateSet};
 use lts::system::{Lts, Test};
+use std::alloc::Global;
 use thiserror::Error;
 
 // The most actions of a trace: the test has two states more than that, and a system has at most 64.
@@ -40,7 +42,8 @@ impl TraceFault {
 
 impl DistinguishingTest {
     ghost use Rattle.testing.specs.declared.ground.Ground.TheVariants.{Settle};
-    ghost use Rattle.testing.specs.Distinguish.{test_of};
+    ghost use Rattle.testing.specs.Distinguish.{test_of, Passes};
+    ghost use Rattle.testing.specs.Experiments.{PassAnswers};
     ghost use Rattle.testing.specs.Filling.{held, tester, filled, after, last_actions, leads_on, silent};
 
     // That of Settle on the empty trace.
@@ -64,6 +67,20 @@ impl DistinguishingTest {
         };
         *self = DistinguishingTest { ground, trace };
         Ok(())
+    }
+
+    // Whether the system passes it: by may for Reach, by must for Settle and Offer. A long trace beside a system of many states may have too many
+    // joint pairs.
+    pub fn is_passed_by<S: Lts>(&self, system: &S, heap: Global) -> Result<bool, ExperimentFault>
+        ensures value { PassAnswers self.now.ground (S.meaning system.now) (tester self.now) result }
+        ensures law { IfOk result (λ b. b ≡ true ↔ Passes self.now.ground (S.meaning system.now) (tester self.now)) }
+    {
+        let outcome = experiment(system, self, heap)?;
+        if self.ground.is_must() {
+            Ok(outcome.must)
+        } else {
+            Ok(outcome.may)
+        }
     }
 
     // The actions that lead from the last state but one to the last.
