@@ -43,7 +43,7 @@ impl TraceFault {
 impl DistinguishingTest {
     ghost use Rattle.testing.specs.declared.ground.Ground.TheVariants.{Settle};
     ghost use Rattle.testing.specs.Distinguish.{test_of, Passes};
-    ghost use Rattle.testing.specs.Experiments.{PassAnswers};
+    ghost use Rattle.testing.specs.Experiments.{TellsPassing};
     ghost use Rattle.testing.specs.Filling.{held, tester, filled, after, last_actions, leads_on, silent};
 
     // That of Settle on the empty trace.
@@ -72,7 +72,7 @@ impl DistinguishingTest {
     // Whether the system passes it: by may for Reach, by must for Settle and Offer. A long trace beside a system of many states may have too many
     // joint pairs.
     pub fn is_passed_by<S: Lts>(&self, system: &S, heap: Global) -> Result<bool, ExperimentFault>
-        ensures value { PassAnswers self.now.ground (S.meaning system.now) (tester self.now) result }
+        ensures value { TellsPassing self.now.ground (S.meaning system.now) (tester self.now) result }
         ensures law { IfOk result (λ b. b ≡ true ↔ Passes self.now.ground (S.meaning system.now) (tester self.now)) }
     {
         let outcome = experiment(system, self, heap)?;
