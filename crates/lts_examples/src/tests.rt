@@ -6,10 +6,12 @@ ghost use Rattle.std.proofs.lemmas.Bool.{cond_both, cond-false, and_left, and_ri
 
 use lts::sets::StateSet;
 use lts::system::Lts;
+use std::alloc::AllocError;
 use std::array;
 use std::test::Fail;
-use traces::compile::compile_lent;
+use traces::compile::{compile, compile_lent};
 use traces::family::Family;
+use traces::macrostates::{macrostate_after, minimal_after};
 
 // A system with actions 0 to 2; where action a leads from state p stands at place 3 * p + a. Arrays of fixed length: an example is written out whole, and needs no heap.
 #[derive(Drop)]
@@ -138,9 +140,8 @@ fn diverged_before(rt: HostRuntime) -> Result<(), Fail> {
     Ok(())
 }
 
-// State 0 has silent transitions to states 1 to 4, which offer {0}, {0, 1}, {1, 2} and {2}; it offers {1} itself and does not count.
-#[test]
-fn four_offers(rt: HostRuntime) -> Result<(), Fail> {
+// State 0 has silent transitions to states 1 to 4, which offer {0}, {0, 1}, {1, 2} and {2}; it offers {1} itself and does not count. Each action leads back to state 0.
+fn offers() -> Sample {
     let mut hidden = [0; 64];
     hidden[0] = 30;
     let mut visible = [0; 192];
@@ -151,20 +152,59 @@ fn four_offers(rt: HostRuntime) -> Result<(), Fail> {
     visible[10] = 1;
     visible[11] = 1;
     visible[14] = 1;
-    let sample = Sample {
+    Sample {
         count: 5,
         states: 31,
         hidden,
         visible,
-    };
-    let compiled = compile_lent(&sample, rt.alloc())?;
+    }
+}
+
+// A trace that can be done, and two that cannot: nothing is offered after them, and they are convergent, since nothing runs for ever on the way.
+#[test]
+fn four_offers(rt: HostRuntime) -> Result<(), Fail> {
+    let compiled = compile_lent(&offers(), rt.alloc())?;
     let mut family = Family::new(rt.alloc())?;
     assert!(rt; compiled.acceptance_into(compiled.after(&[1, 2]), &mut family));
     let members = family.members();
     assert!(rt; members.len() == 2);
     assert_eq!(rt; members[0].bits(), 1);
     assert_eq!(rt; members[1].bits(), 4);
-    assert_eq!(rt; compiled.after(&[1, 3]).states.bits(), 0);
+    let nowhere = compiled.after(&[1, 3]);
+    assert_eq!(rt; nowhere.states.bits(), 0);
+    assert!(rt; nowhere.convergent);
+    assert!(rt; compiled.acceptance_into(nowhere, &mut family));
+    assert!(rt; family.members().is_empty());
     assert_eq!(rt; compiled.after(&[200]).states.bits(), 0);
+    Ok(())
+}
+
+// Compiling keeps what the system means.
+#[test]
+fn compiled_by_value(rt: HostRuntime) -> Result<(), Fail> {
+    let compiled = compile(offers(), rt.alloc()).map_err(|_| AllocError)?;
+    assert!(rt; compiled.count() == 5 && compiled.start() == 0);
+    assert_eq!(rt; compiled.visible(3, 2).bits(), 1);
+    assert_eq!(rt; compiled.visible(4, 1).bits(), 0);
+    assert_eq!(rt; compiled.hidden(0).bits(), 30);
+    assert_eq!(rt; compiled.silent_closure(0).bits(), 31);
+    Ok(())
+}
+
+#[test]
+fn macrostate_of_any_system(rt: HostRuntime) -> Result<(), Fail> {
+    let at = macrostate_after(&offers(), &[1, 2], rt.alloc())?;
+    assert_eq!(rt; at.states.bits(), 31);
+    assert!(rt; at.convergent);
+    Ok(())
+}
+
+#[test]
+fn minimal_sets_of_any_system(rt: HostRuntime) -> Result<(), Fail> {
+    let family = minimal_after(&offers(), &[1, 2], rt.alloc())?;
+    let members = family.members();
+    assert!(rt; members.len() == 2);
+    assert_eq!(rt; members[0].bits(), 1);
+    assert_eq!(rt; members[1].bits(), 4);
     Ok(())
 }

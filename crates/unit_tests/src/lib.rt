@@ -11,3 +11,5 @@ mod piles;
 mod refused;
 #[cfg(test)]
 mod sets;
+#[cfg(test)]
+mod shown;
