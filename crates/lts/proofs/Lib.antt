@@ -3,3 +3,4 @@ pub mod Lowest
 pub mod Order
 pub mod Unions
 pub mod Taken
+pub mod SetLaws

@@ -14,6 +14,10 @@ has q s = s / 2 ^ q % 2 == 1
 abbrev pub Subset : ℕ → ℕ → Type 0
 Subset s t = (q : ℕ) → In q s → In q t
 
+-- s holds the numbers with P, and no other
+pub record Exactly (P : ℕ → Type 0) (s : ℕ) : Type 0 where
+  pub exact : (q : ℕ) → In q s ↔ P q
+
 abbrev pub union : ℕ → ℕ → ℕ
 union s t = bit_or s t
 

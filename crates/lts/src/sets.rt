@@ -1,6 +1,6 @@
 // Sets of states and of actions, each one machine word.
-ghost use Rattle.std.specs.Prelude.{◌≡◌, ℕ, ◌^◌, ◌<◌, ◌≤◌, Bool, not, length, ◌==◌};
-ghost use Rattle.lts.specs.Sets.{has, union as union_of, intersection as intersection_of, complement as complement_of, within, inserted, Lists, members as members_of};
+ghost use Rattle.std.specs.Prelude.{◌≡◌, ℕ, ◌^◌, ◌<◌, ◌≤◌, Bool, not, length, ◌==◌, ◌⊎◌, ◌↔◌, true};
+ghost use Rattle.lts.specs.Sets.{In, Subset, Exactly, has, union as union_of, intersection as intersection_of, complement as complement_of, within, inserted, Lists, members as members_of};
 
 use crate::members::Members;
 use crate::word::Word;
@@ -60,9 +60,9 @@ impl<W: Word> Set<W> {
         number < W::WIDTH && bits >> number & 1 == 1
     }
 
-    #[tactic(auto, using(std::proofs::lemmas::Nat::or_lt))]
     pub fn union(self, other: Set<W>) -> Set<W>
-        ensures { W.number result.bits ≡ union_of (W.number self.bits) (W.number other.bits) }
+        ensures value { W.number result.bits ≡ union_of (W.number self.bits) (W.number other.bits) }
+        ensures members { Exactly (λ q. In q (W.number self.bits) ⊎ In q (W.number other.bits)) (W.number result.bits) }
     {
         Set {
             bits: W::truncated(self.bits.widened() | other.bits.widened()),
@@ -70,7 +70,8 @@ impl<W: Word> Set<W> {
     }
 
     pub fn intersection(self, other: Set<W>) -> Set<W>
-        ensures { W.number result.bits ≡ intersection_of (W.number self.bits) (W.number other.bits) }
+        ensures value { W.number result.bits ≡ intersection_of (W.number self.bits) (W.number other.bits) }
+        ensures members { Exactly (λ q. In q (W.number self.bits) × In q (W.number other.bits)) (W.number result.bits) }
     {
         Set {
             bits: W::truncated(self.bits.widened() & other.bits.widened()),
@@ -79,7 +80,8 @@ impl<W: Word> Set<W> {
 
     // The numbers below the width that are no members.
     pub fn complement(self) -> Set<W>
-        ensures { W.number result.bits ≡ complement_of W.WIDTH (W.number self.bits) }
+        ensures value { W.number result.bits ≡ complement_of W.WIDTH (W.number self.bits) }
+        ensures members { Exactly (λ q. (q < W.WIDTH) × (¬ In q (W.number self.bits))) (W.number result.bits) }
     {
         Set {
             bits: W::truncated(W::ALL - self.bits.widened()),
@@ -88,7 +90,8 @@ impl<W: Word> Set<W> {
 
     // Whether every member is one of the other set.
     pub fn is_within(self, other: Set<W>) -> bool
-        ensures { result ≡ within (W.number self.bits) (W.number other.bits) }
+        ensures value { result ≡ within (W.number self.bits) (W.number other.bits) }
+        ensures members { result ≡ true ↔ Subset (W.number self.bits) (W.number other.bits) }
     {
         let bits = self.bits.widened();
         bits & other.bits.widened() == bits
@@ -97,6 +100,7 @@ impl<W: Word> Set<W> {
     // The set with one number more; one from the width on leaves it as it is. Tells whether the set has grown.
     pub fn insert(&mut self, number: usize) -> bool
         ensures after { W.number self.new.bits ≡ inserted W.WIDTH number (W.number self.old.bits) }
+        ensures members { Exactly (λ q. In q (W.number self.old.bits) ⊎ ((q ≡ number) × (q < W.WIDTH))) (W.number self.new.bits) }
         ensures grown { result ≡ not (W.number self.new.bits == W.number self.old.bits) }
     {
         let before = self.bits.widened();

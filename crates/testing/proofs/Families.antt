@@ -5,7 +5,7 @@ use Rattle.lts.specs.Sets.{Subset, set_of, complement}
 use Rattle.lts.specs.System.{System, Lawful}
 use Rattle.lts.specs.Traces.{Minimal}
 use Rattle.lts.specs.SetTypes.{ActionSet}
-use Rattle.lts.proofs.Membership.{same_members}
+use Rattle.lts.proofs.Membership.{same_members, set_below}
 use Rattle.testing.specs.declared.ground.Side.{Side}
 use Rattle.testing.specs.declared.ground.Side.TheVariants.{Left, Right}
 use Rattle.testing.specs.declared.ground.Ground.TheVariants.{Offer}
@@ -29,15 +29,6 @@ covers_both l r s down up A minimal =
 
 pub same_families : (l r : System) (s : List ℕ) → Covers r l s → Covers l r s → (A : ℕ) → Minimal l s A ↔ Minimal r s A
 same_families l r s down up A = (covers_both l r s down up A, covers_both r l s up down A)
-
-set_below : (f : ℕ → Bool) (n : ℕ) → set_of f n < 2 ^ n
-unfolding set_of
-set_below f zero = omega arith
-set_below f (suc n) = let p = pow-suc 2 n in digit (f 0) (set_below (λ q. f (suc q)) n)
-  where
-    digit : (b : Bool) → set_of (λ q. f (suc q)) n < 2 ^ n → cond b 1 0 + 2 * set_of (λ q. f (suc q)) n < 2 ^ suc n
-    digit true h = let p = pow-suc 2 n in omega arith
-    digit false h = let p = pow-suc 2 n in omega arith
 
 minimal_below_lem : (m : System) (s : List ℕ) (A : ℕ) → Minimal m s A → A < 2 ^ 32
 minimal_below_lem m s A h = subst (λ (X : ℕ). X < 2 ^ 32) h.member.offers (set_below (λ a. not (eqb (m.visible h.member.state a) 0)) 32)

@@ -19,7 +19,7 @@ within_subset a b t k i = (in_and k a b (subst (λ (x : ℕ). In k x) (sym (eqb-
 pub subset_within : (a b : ℕ) → Subset a b → within a b ≡ true
 subset_within a b f = eq-eqb (bit_and a b) a (same_members (bit_and a b) a (λ k i. (in_and k a b i).0) (λ k i. and_in k a b i (f k i)))
 
-within_self : (a : ℕ) → within a a ≡ true
+pub within_self : (a : ℕ) → within a a ≡ true
 within_self a = eq-eqb (bit_and a a) a (and_self a)
 
 -- neither contains the other
@@ -128,7 +128,7 @@ member_without x z (y ∷ ys) h n = cond_both (within x y) (without x ys) (y ∷
     ])
     (λ e. elim h [ inl q ↦ inl q | inr i ↦ inr (member_without x z ys i n) ])
 
-without_antichain : (x : ℕ) (l : List ℕ) → antichain l ≡ true → antichain (without x l) ≡ true
+pub without_antichain : (x : ℕ) (l : List ℕ) → antichain l ≡ true → antichain (without x l) ≡ true
 unfolding without
 without_antichain x [] a = antichain_none
 without_antichain x (y ∷ ys) a =

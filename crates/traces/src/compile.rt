@@ -25,7 +25,7 @@ pub fn compile_lent<S: Lts>(system: &S, heap: Global) -> Result<Compiled, AllocE
     })
 }
 
-// The same, taking the system; where memory is wanting it is handed back.
+// The same, taking the system; where memory is wanting it is handed back, since it may be one that cannot be copied. Both are calls of the outside interface.
 pub fn compile<S: Lts + Drop>(system: S, heap: Global) -> Result<Compiled, S>
     ensures { MatchResult result (λ c. system_of c ≡ S.meaning system) (λ back. back ≡ system) }
 {

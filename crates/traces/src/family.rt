@@ -55,25 +55,6 @@ pub fn is_covered(offer: ActionSet, sets: &[ActionSet]) -> bool
     sets.iter().any(|set| set.is_within(offer))
 }
 
-// Enters an offer among fewer than 64 sets.
-fn enter(sets: &mut Vec<ActionSet>, offer: ActionSet)
-    requires room { 64 ≤ vec_capacity sets.old }
-    requires few { vec_len sets.old < 64 }
-    ensures items { bits_of sets.new.items ≡ offered offer.bits (bits_of sets.old.items) }
-    ensures len { vec_len sets.new ≤ vec_len sets.old + 1 }
-    ensures capacity { vec_capacity sets.new ≡ vec_capacity sets.old }
-{
-    if is_covered(offer, sets) {
-        return;
-    }
-    sets.retain(|set| !offer.is_within(*set));
-    let place = sets
-        .iter()
-        .position(|set| offer.bits() < set.bits())
-        .unwrap_or(sets.len());
-    let _ = sets.insert(place, offer);
-}
-
 impl Family {
     pub fn new(heap: Global) -> Result<Family, AllocError>
         ensures { IfOk result (λ f. f ≡ []) }
@@ -98,7 +79,11 @@ impl Family {
         if self.sets.len() >= 64 {
             return Err(Full);
         }
-        enter(&mut self.sets, offer);
+        if !is_covered(offer, self.members()) {
+            self.sets.retain(|set| !offer.is_within(*set));
+            let place = self.sets.partition_point(|set| set.bits() < offer.bits());
+            let _ = self.sets.insert(place, offer);
+        }
         Ok(())
     }
 
@@ -113,6 +98,7 @@ impl Family {
     }
 
     // Whether each member of either family contains a member of the other: since no member contains another, this is whether they have the same members.
+    // `==` is the same; this name is a call of the outside interface, and promises the containments too.
     pub fn same_as(&self, other: &Family) -> bool
         ensures value { result ≡ (all_covered self.now other.now && all_covered other.now self.now) }
         ensures equal { result ≡ true ↔ self.now ≡ other.now }

@@ -11,7 +11,8 @@ pub(crate) struct TransitionRow {
     pub(crate) hidden: StateSet,
 }
 
-// One row for each state.
+// One row for each state. Clauses say `table_of` of it. Tried: a model, so that they say the value itself; but a model's value is data, and a system holds
+// functions.
 #[derive(Drop)]
 pub struct Transitions {
     pub(crate) start: usize,

@@ -2,11 +2,12 @@ use Rattle.std.proofs.Common.{ap, ◌∙◌, arith}
 use Rattle.std.proofs.Output.{has_written_of_eq}
 use Rattle.printing.specs.Systems.{targets_text}
 use Rattle.lts.specs.Sets.{members}
-use Rattle.printing.proofs.Members.{drained, first_below}
+use Rattle.lts.proofs.Taken.{member_below}
+use Rattle.printing.proofs.Members.{drained}
 use Rattle.printing.proofs.systems_shown.write_targets.Goals as goal
 
 pub overflow_cast-to : goal.overflow_cast-to
-overflow_cast-to g c = let below = first_below _ _ _ c.in-Some.ensures.steps in omega arith
+overflow_cast-to g c = let below = member_below _ _ _ c.in-Some.ensures.steps in omega arith
 
 pub returns : goal.returns
 returns g c p k =

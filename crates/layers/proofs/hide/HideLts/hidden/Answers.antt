@@ -12,7 +12,7 @@ loop-action-init g c =
 
 pub loop-action-preserved : goal.loop-action-preserved
 loop-action-preserved g c =
-    (tt, tt, joined_more _ c.loop-action.states.bits _ c.in-Some.action _ _ _ c.loop-action.invariant.2 c.in-Some.ensures.steps (c.union-states.ensures ∙ ap (λ s. Rattle.lts.specs.Sets.union c.loop-action.states.bits s) c.visible.ensures))
+    (tt, tt, joined_more _ c.loop-action.states.bits _ c.in-Some.action _ _ _ c.loop-action.invariant.2 c.in-Some.ensures.steps (c.union-states.ensures.value ∙ ap (λ s. Rattle.lts.specs.Sets.union c.loop-action.states.bits s) c.visible.ensures))
 
 pub returns : goal.returns
 returns g c = joined_all _ c.loop-action.states.bits _ _ c.loop-action.invariant.2 c.in-None.ensures.steps.0

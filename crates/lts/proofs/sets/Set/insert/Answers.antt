@@ -2,6 +2,7 @@ use Rattle.std.proofs.Common.{ℕ, suc, ◌≡◌, ◌*◌, ◌%◌, ◌<◌, �
 use Rattle.std.proofs.Math.Nat.{mod-eq_of_lt}
 use Rattle.std.proofs.lemmas.Nat.{or_lt, one_shl}
 use Rattle.std.proofs.lemmas.Bool.{lt-ltb}
+use Rattle.lts.proofs.SetLaws.{exact_inserted}
 use Rattle.lts.proofs.sets.Set.insert.Goals as goal
 
 -- a word of w bits with bit q beside its own is one of w bits
@@ -22,6 +23,9 @@ returns-clause-after g c =
     let w = c.widened-before.ensures.value in
     let t = c.truncated-self.ensures in
     rw (lt-ltb q g.W.Word.WIDTH b) cc
+
+pub returns-clause-members : goal.returns-clause-members
+returns-clause-members g c = exact_inserted g.W.Word.WIDTH c.args.number (g.W.Word.number c.args.self.now.bits) _ (returns-clause-after g c)
 
 pub returns-clause-grown : goal.returns-clause-grown
 returns-clause-grown g c =
