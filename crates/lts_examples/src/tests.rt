@@ -1,5 +1,5 @@
 // Examples worked out by hand.
-ghost use Rattle.std.specs.Prelude.{◌≡◌, ℕ, ◌+◌, ◌*◌, ◌^◌, ◌<◌, ◌≤◌, ◌&&◌, if◌then◌else◌, bit_and, nat_lt, slice_index};
+ghost use Rattle.std.specs.Prelude.{◌≡◌, ℕ, ◌+◌, ◌^◌, ◌<◌, ◌≤◌, ◌&&◌, if◌then◌else◌, bit_and, nat_lt, slice_index, slice_index_or, []};
 ghost use Rattle.std.proofs.lemmas.Nat.{and_le_r};
 ghost use Rattle.std.proofs.Common.{arith, pow_pos};
 ghost use Rattle.std.proofs.lemmas.Bool.{cond_both, cond-false, and_left, and_right, le-ltb};
@@ -13,26 +13,26 @@ use traces::compile::{compile, compile_lent};
 use traces::family::Family;
 use traces::macrostates::{macrostate_after, minimal_after};
 
-// A system with actions 0 to 2; where action a leads from state p stands at place 3 * p + a. Arrays of fixed length: an example is written out whole, and needs no heap.
+// A system with actions 0 to 2; a row of three sets for each state. Arrays of fixed length: an example is written out whole, and needs no heap.
 #[derive(Drop)]
 struct Sample {
     count: usize,
     states: u64,
     hidden: [u64; 64],
-    visible: [u64; 192],
+    visible: [[u64; 3]; 64],
     ghost some: { 1 ≤ count },
     ghost few: { count ≤ 64 },
     ghost own: { states < 2 ^ count },
 }
 
 impl Lts for Sample {
-    ghost meaning = { λ x. record { count = x.count; start = 0; visible = λ p a. (if nat_lt p x.count && nat_lt a 3 then bit_and (slice_index x.visible (3 * p + a)) x.states else 0); hidden = λ p. (if nat_lt p x.count then bit_and (slice_index x.hidden p) x.states else 0) } };
+    ghost meaning = { λ x. record { count = x.count; start = 0; visible = λ p a. (if nat_lt p x.count && nat_lt a 3 then bit_and (slice_index (slice_index_or x.visible p []) a) x.states else 0); hidden = λ p. (if nat_lt p x.count then bit_and (slice_index x.hidden p) x.states else 0) } };
 
     ghost lawful = { λ x.
         record {
           nonempty = x.some;
           starts = x.some;
-          visible_below = λ p a. cond_both (nat_lt p x.count && nat_lt a 3) _ 0 (λ (s : ℕ). s < 2 ^ x.count) (λ e. omega (arith, and_le_r (slice_index x.visible (3 * p + a)) x.states, x.own)) (λ e. pow_pos x.count);
+          visible_below = λ p a. cond_both (nat_lt p x.count && nat_lt a 3) _ 0 (λ (s : ℕ). s < 2 ^ x.count) (λ e. omega (arith, and_le_r (slice_index (slice_index_or x.visible p []) a) x.states, x.own)) (λ e. pow_pos x.count);
           hidden_below = λ p. cond_both (nat_lt p x.count) _ 0 (λ (s : ℕ). s < 2 ^ x.count) (λ e. omega (arith, and_le_r (slice_index x.hidden p) x.states, x.own)) (λ e. pow_pos x.count);
           visible_outside = λ p a b. cond-false _ _ _ (and_left (nat_lt p x.count) (nat_lt a 3) (le-ltb p x.count b));
           hidden_outside = λ p b. cond-false _ _ _ (le-ltb p x.count b);
@@ -51,7 +51,7 @@ impl Lts for Sample {
 
     fn visible(&self, state: usize, action: usize) -> StateSet {
         if state < self.count && action < 3 {
-            StateSet::from_bits(self.visible[3 * state + action] & self.states)
+            StateSet::from_bits(self.visible[state][action] & self.states)
         } else {
             StateSet::empty()
         }
@@ -76,7 +76,7 @@ fn silent(count: usize, states: u64, hidden: [u64; 64]) -> Sample
         count,
         states,
         hidden,
-        visible: [0; 192],
+        visible: [[0; 3]; 64],
     }
 }
 
@@ -122,8 +122,8 @@ fn silent_ring(rt: HostRuntime) -> Result<(), Fail> {
 fn diverged_before(rt: HostRuntime) -> Result<(), Fail> {
     let mut hidden = [0; 64];
     hidden[0] = 1;
-    let mut visible = [0; 192];
-    visible[0] = 2;
+    let mut visible = [[0; 3]; 64];
+    visible[0][0] = 2;
     let sample = Sample {
         count: 2,
         states: 3,
@@ -144,14 +144,14 @@ fn diverged_before(rt: HostRuntime) -> Result<(), Fail> {
 fn offers() -> Sample {
     let mut hidden = [0; 64];
     hidden[0] = 30;
-    let mut visible = [0; 192];
-    visible[1] = 1;
-    visible[3] = 1;
-    visible[6] = 1;
-    visible[7] = 1;
-    visible[10] = 1;
-    visible[11] = 1;
-    visible[14] = 1;
+    let mut visible = [[0; 3]; 64];
+    visible[0][1] = 1;
+    visible[1][0] = 1;
+    visible[2][0] = 1;
+    visible[2][1] = 1;
+    visible[3][1] = 1;
+    visible[3][2] = 1;
+    visible[4][2] = 1;
     Sample {
         count: 5,
         states: 31,

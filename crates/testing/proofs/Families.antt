@@ -1,7 +1,7 @@
 -- Two families of minimal acceptance sets: they are the same, or the rule of the ground Offer finds a set. Assumes nothing.
-use Rattle.std.proofs.Common.{◌≡◌, ℕ, zero, suc, ◌+◌, ◌*◌, ◌^◌, ◌<◌, Bool, true, false, cond, not, eqb, ◌⊎◌, ◌↔◌, List, refl, subst, inl, inr, pow-suc, arith}
+use Rattle.std.proofs.Common.{◌≡◌, ℕ, ◌^◌, ◌<◌, not, eqb, ◌⊎◌, ◌↔◌, List, refl, subst, inl, inr, arith}
 use native.Mathlib.Decide.{dec_lt}
-use Rattle.lts.specs.Sets.{Subset, set_of, complement}
+use Rattle.lts.specs.Sets.{Subset, complement}
 use Rattle.lts.specs.System.{System, Lawful}
 use Rattle.lts.specs.Traces.{Minimal}
 use Rattle.lts.specs.SetTypes.{ActionSet}
