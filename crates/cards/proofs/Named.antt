@@ -65,18 +65,6 @@ line_below : (l : LineT) → PartFits Test (Line l) → line_word l < 4 * 2 ^ 28
 unfolding PartFits
 line_below l h = line_low l h.0 h.1 h.2
 
-in_map : {A : Type 0} (f : A → ℕ) (w : ℕ) (xs : List A) → Memᴰ w (map f xs) → (x : A) × Memᴰ x xs × (w ≡ f x)
-in_map f w [] m = absurd (Memᴰ.not-nil m)
-in_map f w (x ∷ xs) m =
-    elim (Memᴰ.cases_cons m) [
-      | inl e ↦ (x, Memᴰ.head refl, e)
-      | inr m' ↦ let r = in_map f w xs m' in (r.0, Memᴰ.tail r.1, r.2)
-    ]
-
-map_in : {A : Type 0} (f : A → ℕ) (x : A) (xs : List A) → Memᴰ x xs → Memᴰ (f x) (map f xs)
-map_in f x [] m = absurd (Memᴰ.not-nil m)
-map_in f x (y ∷ ys) m = elim (Memᴰ.cases_cons m) [ inl e ↦ Memᴰ.head (ap f e) | inr m' ↦ Memᴰ.tail (map_in f x ys m') ]
-
 module _ (role : Role) (c : Contents) (v : Valid role c) where
   -- where a word of the file stands
   stands : (w : ℕ) → Memᴰ w (written c)
@@ -96,7 +84,7 @@ module _ (role : Role) (c : Contents) (v : Valid role c) where
 
   line_there : (l : LineT) → Memᴰ l c.lines → Memᴰ (line_word l) (written c)
   unfolding written
-  line_there l m = Memᴰ.tail (Memᴰ.append_left (map passing_word (members c.passing) ++ (end_word ∷ [])) (map_in line_word l c.lines m))
+  line_there l m = Memᴰ.tail (Memᴰ.append_left (map passing_word (members c.passing) ++ (end_word ∷ [])) (Memᴰ.map line_word m))
 
   there_line : (l : LineT) → l.from < 64 → l.to < 64 → label_fits l.label ≡ true → Memᴰ (line_word l) (written c) → Memᴰ l c.lines
   there_line l f t e m =
@@ -106,11 +94,11 @@ module _ (role : Role) (c : Contents) (v : Valid role c) where
         | inl a ↦ absurd (omega arith)
         | inr o ↦ elim o [
           | inl a ↦
-              let r = in_map line_word (line_word l) c.lines a in
-              let s = same_line l r.0 (line_fits_part l f t e) (fits_listed c.states c.lines r.0 v.most v.fit r.1) r.2 in
+              let r = Memᴰ.of_map line_word c.lines a in
+              let s = same_line l r.0 (line_fits_part l f t e) (fits_listed c.states c.lines r.0 v.most v.fit r.1) (sym r.2) in
               subst (λ (k : LineT). Memᴰ k c.lines) (sym s) r.1
           | inr o' ↦ elim o' [
-            | inl a ↦ absurd (let r = in_map passing_word (line_word l) (members c.passing) a in omega (arith, r.2))
+            | inl a ↦ absurd (let r = Memᴰ.of_map passing_word (members c.passing) a in omega (arith, r.2))
             | inr a ↦ absurd (omega arith)
           ]
         ]
@@ -120,18 +108,18 @@ module _ (role : Role) (c : Contents) (v : Valid role c) where
   unfolding written
   passing_there q i =
       Memᴰ.tail
-      (Memᴰ.append_right (map line_word c.lines) (Memᴰ.append_left (end_word ∷ []) (map_in passing_word q (members c.passing) (((listed role c v).exact q).1 i))))
+      (Memᴰ.append_right (map line_word c.lines) (Memᴰ.append_left (end_word ∷ []) (Memᴰ.map passing_word (((listed role c v).exact q).1 i))))
 
   there_passing : (q : ℕ) → q < 64 → Memᴰ (passing_word q) (written c) → In q c.passing
   there_passing q h m =
       elim (stands (passing_word q) m) [
         | inl a ↦ absurd (omega arith)
         | inr o ↦ elim o [
-          | inl a ↦ absurd (let r = in_map line_word (passing_word q) c.lines a in
+          | inl a ↦ absurd (let r = Memᴰ.of_map line_word c.lines a in
               omega (arith, r.2, line_below r.0 (fits_listed c.states c.lines r.0 v.most v.fit r.1)))
           | inr o' ↦ elim o' [
             | inl a ↦
-                let r = in_map passing_word (passing_word q) (members c.passing) a in
+                let r = Memᴰ.of_map passing_word (members c.passing) a in
                 let e : r.0 ≡ q = omega (arith, r.2) in
                 subst (λ (x : ℕ). In x c.passing) e (((listed role c v).exact r.0).0 r.1)
             | inr a ↦ absurd (omega arith)

@@ -73,7 +73,8 @@ impl WrittenCard {
     }
 }
 
-// As for a card, over the same `file_words`; one body by a trait of both would be no plainer: each has its clauses to repeat for these two calls.
+// As for a card, over the same `file_words`. Two public calls of two types: one body by a trait would be no plainer, as the trait would repeat these
+// clauses.
 impl WrittenTest {
     // Reads a file of a test. A refusal leaves the test as it stood.
     pub fn read_bytes(&mut self, bytes: &[u8]) -> Result<(), CardFault>

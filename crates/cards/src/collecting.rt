@@ -7,7 +7,8 @@ use crate::lines::*;
 use crate::words::decode;
 use lts::sets::StateSet;
 
-// Puts the lines that the words name in place of those before, and returns the passing states that they name.
+// Puts the lines that the words name in place of those before, and returns the passing states that they name. The card's own lines are filled: their
+// room is set aside when the card is made, so that reading wants no memory.
 pub(crate) fn collect(lines: &mut Vec<Line>, words: &[u32]) -> StateSet
     requires { length (lines_in words.now) ≤ vec_capacity lines.old }
     ensures lines { lines.new.items ≡ lines_in words.now }

@@ -74,7 +74,7 @@ impl ShortBuffer {
     }
 }
 
-// By hand and not derived, since a contract names the error that a `?` makes: so each has a `from_gives`.
+// By hand: a contract names the error that a `?` makes, so each needs a `from_gives`, which no derive writes.
 impl From<WordFault> for CardFault {
     ghost from_gives = { λ e f. f ≡ record { word = e } };
 

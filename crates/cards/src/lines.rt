@@ -1,6 +1,6 @@
 // The transitions of a written card.
 
-// What a line bears. An `Option` of an action would be no plainer: it could not print itself as `h`, and its `None` comes first where silent lines come last.
+// What a line bears. An `Option` of an action would be no plainer: it could not print itself as `h`.
 #[derive(Clone, Copy, PartialEq, Eq, Debug)]
 pub enum Label {
     Action(u8),

@@ -7,7 +7,8 @@ use crate::lines::*;
 use crate::tables::Table;
 
 // A system given by at most 256 lines, in the order of their words. There is room for the most lines from the start, so that reading never wants memory.
-// `table` has the sets of states that the lines lead to, so that a question is answered at once.
+// `table` has the sets of states that the lines lead to, so that a question is answered at once. Clauses say `contents` of it. No model: the laws of `Lts`
+// are asked of each value, and a model's value has lost what the fields keep.
 #[derive(Drop)]
 pub struct WrittenCard {
     pub(crate) states: usize,

@@ -4,7 +4,7 @@ use native.Mathlib.Nat.{div_self, div-eq_of_lt, zero-div}
 use native.Mathlib.Decide.{ℕ_discrete}
 use lib.Arith.{bin_ind}
 use lib.Bits.{bit_and, bit_or, or_zero_l, or_zero_r, and_zero_l, or_shr, or_mod, and_shr, and_mod, or_comm, and_comm}
-use Rattle.lts.specs.Sets.{In, has, Subset, complement, set_of}
+use Rattle.lts.specs.Sets.{In, has, Subset, within, complement, set_of}
 
 pub half : (s k : ℕ) → s / 2 ^ suc k ≡ s / 2 / 2 ^ k
 half s k = ap (λ (j : ℕ). s / 2 ^ j) (sym (one-add k)) ∙ sym (shr-shr s 1 k)
@@ -157,6 +157,13 @@ pub and_in : (k a b : ℕ) → In k a → In k b → In k (bit_and a b)
 and_in k a b h i = and_bit k a b ∙ ap₂ (λ (x y : ℕ). bit_and x y) h i
 
 -- a set below 2 ^ n has its members below n
+-- whether a set is part of another
+pub within_subset : (a b : ℕ) → within a b ≡ true → Subset a b
+within_subset a b t k i = (in_and k a b (subst (λ (x : ℕ). In k x) (sym (eqb-true (bit_and a b) a t)) i)).1
+
+pub subset_within : (a b : ℕ) → Subset a b → within a b ≡ true
+subset_within a b f = eq-eqb (bit_and a b) a (same_members (bit_and a b) a (λ k i. (in_and k a b i).0) (λ k i. and_in k a b i (f k i)))
+
 pub members_below : (n s k : ℕ) → s < 2 ^ n → In k s → k < n
 members_below zero s k b h = absurd (not_empty k s h (omega arith))
 members_below (suc n) s zero b h = suc-le-suc zero-le

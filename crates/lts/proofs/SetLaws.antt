@@ -1,8 +1,8 @@
 -- What the calls of sets make, by membership. Assumes nothing.
-use Rattle.std.proofs.Common.{◌≡◌, ℕ, ◌<◌, ◌^◌, Bool, true, not, T, ◌⊎◌, ◌↔◌, inl, inr, sym, subst, ◌∙◌, eq-eqb, eqb-true, arith}
+use Rattle.std.proofs.Common.{◌≡◌, ℕ, ◌<◌, ◌^◌, Bool, true, not, T, ◌⊎◌, ◌↔◌, inl, inr, sym, subst, ◌∙◌, arith}
 use Rattle.std.proofs.lemmas.Bool.{cases_lt, lt-ltb, le-ltb}
 use Rattle.lts.specs.Sets.{In, has, Subset, Exactly, union, intersection, complement, within, inserted}
-use Rattle.lts.proofs.Membership.{in_or, or_left, or_right, in_and, and_in, in_set, set_in, in_has, out_has, in_power, power_in, same_members}
+use Rattle.lts.proofs.Membership.{in_or, or_left, or_right, in_and, and_in, in_set, set_in, in_has, out_has, in_power, power_in, within_subset, subset_within}
 
 pub exact_union : (a b s : ℕ) → s ≡ union a b → Exactly (λ q. In q a ⊎ In q b) s
 exact_union a b s e = rw e (record { exact = λ q. (in_or q a b, λ h. elim h [ inl i ↦ or_left q a b i | inr i ↦ or_right q a b i ]) })
@@ -34,8 +34,5 @@ exact_inserted w n a s e = rw e (elim (cases_lt n w) [
   })
 ])
 
-pub within_subset : (a b : ℕ) (r : Bool) → r ≡ within a b → r ≡ true ↔ Subset a b
-within_subset a b r e = (
-  (λ t q i. let z = eqb-true (intersection a b) a (sym e ∙ t) in (in_and q a b (subst (λ (s : ℕ). In q s) (sym z) i)).1),
-  (λ f. e ∙ eq-eqb (intersection a b) a (same_members (intersection a b) a (λ q i. (in_and q a b i).0) (λ q i. and_in q a b i (f q i)))),
-)
+pub told_within : (a b : ℕ) (r : Bool) → r ≡ within a b → r ≡ true ↔ Subset a b
+told_within a b r e = (λ t. within_subset a b (sym e ∙ t), λ f. e ∙ subset_within a b f)

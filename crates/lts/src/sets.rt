@@ -5,7 +5,8 @@ ghost use Rattle.lts.specs.Sets.{In, Subset, Exactly, has, union as union_of, in
 use crate::members::Members;
 use crate::word::Word;
 
-// A set of numbers below the width of a word; bit k stands for the number k.
+// A set of numbers below the width of a word; bit k stands for the number k. Clauses name its bits. A model that shows the number alone would lose that it
+// has room in the word, and the derived equality would want a way back from numbers to words.
 #[derive(Clone, Copy, PartialEq, Eq, Debug)]
 pub struct Set<W> {
     bits: W,

@@ -99,7 +99,7 @@ macrostate_shows m lawful s =
       );
       converges = convergent_along m lawful s;
       minimal = λ t. record {
-        ascending = antichain_ascending (minimal m S) (minimal_antichain m S m.count);
-        members = λ A. (member_minimal m lawful s A, minimal_member m lawful s A);
+        rising = antichain_ascending (minimal m S) (minimal_antichain m S m.count);
+        sets = λ A. (member_minimal m lawful s A, minimal_member m lawful s A);
       };
     }

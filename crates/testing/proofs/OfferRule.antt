@@ -5,15 +5,16 @@ use Rattle.lts.specs.Sets.{Subset, Above, Ascending}
 use Rattle.lts.specs.System.{System}
 use Rattle.traces.specs.Families.{Member, covered}
 use Rattle.traces.specs.Offered.{Incomparable}
-use Rattle.traces.proofs.Antichains.{within_subset, subset_within, covered_member, member_covered, ascending_same}
-use Rattle.lts.proofs.Membership.{same_members}
+use Rattle.traces.specs.Shown.{Accepts}
+use Rattle.traces.proofs.Antichains.{covered_member, member_covered, ascending_same}
+use Rattle.lts.proofs.Membership.{within_subset, subset_within, same_members}
 use Rattle.testing.specs.declared.ground.Side.{Side}
 use Rattle.testing.specs.declared.ground.Side.TheVariants.{Left, Right}
 use Rattle.testing.specs.declared.ground.Ground.{Ground}
 use Rattle.testing.specs.declared.ground.Ground.TheVariants.{Reach, Settle, Offer}
 use Rattle.testing.specs.declared.ground.Split.{Split}
 use Rattle.testing.specs.Splits.{Bare, Lowest, BothConvergent, Splits}
-use Rattle.testing.specs.Rule.{first_bare, by_offer, offer_rule, BareIn, Listed, RuleSays, RuleLaw, RuleDiffers, RuleSplits}
+use Rattle.testing.specs.Rule.{first_bare, by_offer, offer_rule, BareIn, RuleSays, RuleLaw, RuleDiffers, RuleSplits}
 use Rattle.testing.proofs.OneGround.{one_ground}
 
 above_member : (w z : ℕ) (xs : List ℕ) → Above w xs → Member z xs → w < z
@@ -93,17 +94,17 @@ rule_differs xs ys a b c d = by (first_bare xs ys) (first_bare ys xs) (first_bar
     by None None f g = (λ e. ascending_same xs ys a b (moved xs ys c f g) (moved ys xs d g f), λ e. refl)
 
 -- sets of the lists are minimal acceptance sets
-module _ (l r : System) (s xs ys : List ℕ) (lx : Listed l s xs) (ly : Listed r s ys) where
+module _ (l r : System) (s xs ys : List ℕ) (lx : Accepts l s xs) (ly : Accepts r s ys) where
   to_bare : (S : ℕ) → BareIn xs ys S → Bare l r s S
-  to_bare S b = record { minimal = (lx.members S).0 b.member; free = λ B h. b.free B ((ly.members B).1 h) }
+  to_bare S b = record { minimal = (lx.sets S).0 b.member; free = λ B h. b.free B ((ly.sets B).1 h) }
 
   of_bare : (S : ℕ) → Bare l r s S → BareIn xs ys S
-  of_bare S b = record { member = (lx.members S).1 b.minimal; free = λ y h. b.free y ((ly.members y).0 h) }
+  of_bare S b = record { member = (lx.sets S).1 b.minimal; free = λ y h. b.free y ((ly.sets y).0 h) }
 
   to_lowest : (S : ℕ) → Lowest (BareIn xs ys) S → Lowest (Bare l r s) S
   to_lowest S f = record { holds = to_bare S f.holds; lowest = λ R b. f.lowest R (of_bare R b) }
 
-module _ (l r : System) (s xs ys : List ℕ) (both : BothConvergent l r s) (lx : Listed l s xs) (ly : Listed r s ys) where
+module _ (l r : System) (s xs ys : List ℕ) (both : BothConvergent l r s) (lx : Accepts l s xs) (ly : Accepts r s ys) where
   abbrev SplitsBy : Split → Type 0
   SplitsBy v = Splits l r s v.ground v.passer
 
@@ -129,7 +130,7 @@ module _ (l r : System) (s xs ys : List ℕ) (both : BothConvergent l r s) (lx :
 
 pub rule_splits : RuleSplits
 rule_splits l r s xs ys both lx ly v =
-    let says = rule_law xs ys lx.ascending ly.ascending in (
+    let says = rule_law xs ys lx.rising ly.rising in (
       λ e. says_split l r s xs ys both lx ly v (subst (RuleSays xs ys) e says),
       λ b. split_says l r s xs ys both lx ly v b (offer_rule xs ys) says,
     )

@@ -4,6 +4,7 @@ use Rattle.std.specs.Borrow.{Bor}
 use Rattle.lts.specs.System.{System, Lawful}
 use Rattle.lts.specs.Traces.{CanDo, Convergent}
 use Rattle.traces.specs.Macrostates.{macrostate}
+use Rattle.traces.specs.Shown.{Accepts}
 use Rattle.traces.specs.Families.{minimal}
 use Rattle.traces.specs.Offered.{bits_of}
 use Rattle.lts.specs.SetTypes.{ActionSet}
@@ -15,7 +16,7 @@ use Rattle.testing.specs.declared.ground.Split.{Split}
 use Rattle.testing.specs.declared.ground.Shown.{Shown}
 use Rattle.testing.specs.declared.ground.Shown.TheVariants.{Unable, Divergent, Offers}
 use Rattle.testing.specs.Splits.{Splits}
-use Rattle.testing.specs.Rule.{Listed, split_by, offer_rule}
+use Rattle.testing.specs.Rule.{split_by, offer_rule}
 
 abbrev pub split_on : Ground → Side → Option Split
 split_on g p = Some (split_by g p)
@@ -58,13 +59,13 @@ told l r = split_rule (does l) (does r) (settles l) (settles r) (minimal_sets l)
 pub record Shows (m : System) (s : List ℕ) (can convergent : Bool) (xs : List ℕ) : Type 0 where
   pub does : T can ↔ CanDo m s
   pub converges : T convergent ↔ Convergent m s
-  pub minimal : T convergent → Listed m s xs
+  pub minimal : T convergent → Accepts m s xs
 
 -- the same, as far as it can matter: convergence where m can do the trace, the minimal sets where m is convergent as well
 abbrev pub ShownBy : System → List ℕ → Shown → Type 0
 ShownBy m s Unable = ¬ CanDo m s
 ShownBy m s Divergent = CanDo m s × (¬ Convergent m s)
-ShownBy m s (Offers sets) = CanDo m s × Convergent m s × Listed m s (bits_of sets.now)
+ShownBy m s (Offers sets) = CanDo m s × Convergent m s × Accepts m s (bits_of sets.now)
 
 -- What is told from what a trace shows of two systems is how it splits them.
 abbrev pub Judges : Type 0

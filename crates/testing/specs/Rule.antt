@@ -2,8 +2,8 @@
 use Rattle.std.specs.Prelude.{◌≡◌, ℕ, cond, ◌⊎◌, ◌↔◌, List, [], ◌∷◌, Some, None, Option}
 use Rattle.lts.specs.Sets.{Subset, complement, Ascending}
 use Rattle.lts.specs.System.{System}
-use Rattle.lts.specs.Traces.{Minimal}
 use Rattle.traces.specs.Families.{Member, covered}
+use Rattle.traces.specs.Shown.{Accepts}
 use Rattle.traces.specs.Offered.{Incomparable}
 use Rattle.testing.specs.declared.ground.Side.{Side}
 use Rattle.testing.specs.declared.ground.Side.TheVariants.{Left, Right}
@@ -39,11 +39,6 @@ pub record BareIn (xs ys : List ℕ) (S : ℕ) : Type 0 where
   pub member : Member S xs
   pub free : (y : ℕ) → Member y ys → ¬ Subset y S
 
--- xs is the list of the minimal acceptance sets of m after s
-pub record Listed (m : System) (s : List ℕ) (xs : List ℕ) : Type 0 where
-  pub ascending : Ascending xs
-  pub members : (A : ℕ) → Member A xs ↔ Minimal m s A
-
 -- what a split by the rule says of two lists: S is the lowest set of the left list that contains none of the right or, if none of those is, the
 -- lowest of the right list that contains none of the left
 abbrev pub RuleSays : List ℕ → List ℕ → Option Split → Type 0
@@ -62,5 +57,5 @@ RuleDiffers = (xs ys : List ℕ) → Ascending xs → Ascending ys → Incompara
 
 -- At the minimal acceptance sets of two convergent systems it tells how the trace splits them.
 abbrev pub RuleSplits : Type 0
-RuleSplits = (l r : System) (s xs ys : List ℕ) → BothConvergent l r s → Listed l s xs → Listed r s ys
+RuleSplits = (l r : System) (s xs ys : List ℕ) → BothConvergent l r s → Accepts l s xs → Accepts r s ys
     → ((v : Split) → offer_rule xs ys ≡ Some v ↔ Splits l r s v.ground v.passer)

@@ -9,15 +9,8 @@ use Rattle.lts.specs.Traces.{Acceptance, Minimal, offer}
 use Rattle.traces.specs.Macrostates.{macrostate}
 use Rattle.traces.specs.Families.{Member, covered, all_covered, follows, followed, antichain, without, placed, offered, minimal_below, minimal}
 use Rattle.traces.specs.Offered.{Incomparable}
-use Rattle.lts.proofs.Membership.{same_members, in_and, and_in, has_in, in_has}
+use Rattle.lts.proofs.Membership.{within_subset, subset_within, same_members, has_in, in_has}
 use Rattle.traces.proofs.TraceStates.{states_after, after_below}
-
--- parts of sets
-pub within_subset : (a b : ℕ) → within a b ≡ true → Subset a b
-within_subset a b t k i = (in_and k a b (subst (λ (x : ℕ). In k x) (sym (eqb-true (bit_and a b) a t)) i)).1
-
-pub subset_within : (a b : ℕ) → Subset a b → within a b ≡ true
-subset_within a b f = eq-eqb (bit_and a b) a (same_members (bit_and a b) a (λ k i. (in_and k a b i).0) (λ k i. and_in k a b i (f k i)))
 
 pub within_self : (a : ℕ) → within a a ≡ true
 within_self a = eq-eqb (bit_and a a) a (and_self a)

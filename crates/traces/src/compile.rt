@@ -32,7 +32,8 @@ pub fn compile<S: Lts + Drop>(system: S, heap: Global) -> Result<Compiled, S>
     compile_lent(&system, heap).map_err(|_| system)
 }
 
-// Each question is handed on; to do that once for all that hold a system would need a trait with the same four questions.
+// Each question is handed on; one impl for all that hold a system would be no plainer: it needs a trait that hands out the system, with an impl for
+// each holder.
 impl Lts for Compiled {
     ghost meaning = { λ c. system_of c };
 

@@ -12,7 +12,7 @@ use std::alloc::{AllocError, Global};
 use std::marker::Model;
 
 // At most 64 sets in rising order, none of which contains another. Room for all is set aside when the family is made, so that memory can be wanting
-// then alone; an array of fixed length in its place would leave the allocator of `new` without use.
+// then alone: `new` is a call of the outside interface and takes an allocator, which an array of fixed length would leave without use.
 #[derive(Drop)]
 pub struct Family {
     sets: Vec<ActionSet>,

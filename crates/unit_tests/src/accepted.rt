@@ -32,6 +32,7 @@ fn three_states(rt: HostRuntime) -> Result<(), Fail> {
     assert_eq!(rt; exact, words);
     let mut short = [0xFFFF_FFFF; 4];
     assert_eq!(rt; card.write(&mut short), Err(ShortBuffer));
+    assert_eq!(rt; ShortBuffer.number(), 8);
     assert_eq!(rt; short, [0xFFFF_FFFF; 4]);
     Ok(())
 }

@@ -46,11 +46,19 @@ fn leftover_bytes(rt: HostRuntime) -> Result<(), Fail> {
     assert_eq!(rt; told(heap, &[1])?, fault(Reason::Missing, 0));
     assert_eq!(rt; told(heap, &[1, 0, 0, 0x10, 0])?, fault(Reason::Missing, 1));
     assert_eq!(rt;
+        told(heap, &[1, 0, 0, 0x10, 0, 0])?,
+        fault(Reason::Missing, 1)
+    );
+    assert_eq!(rt;
         told(heap, &[1, 0, 0, 0x10, 0, 0, 0])?,
         fault(Reason::Missing, 1)
     );
     assert_eq!(rt;
         told(heap, &[1, 0, 0, 0x10, 0, 0, 0, 0x50, 7])?,
+        fault(Reason::Trailing, 2)
+    );
+    assert_eq!(rt;
+        told(heap, &[1, 0, 0, 0x10, 0, 0, 0, 0x50, 0, 0])?,
         fault(Reason::Trailing, 2)
     );
     assert_eq!(rt;

@@ -13,3 +13,5 @@ mod piles;
 mod refused;
 #[cfg(test)]
 mod sets;
+#[cfg(test)]
+mod shown;

@@ -24,7 +24,7 @@ fn table<S: Lts, const N: usize>(system: &S) -> [[u64; 5]; N] {
 }
 
 // A counter that takes in by 0 and hands over by 1 to one that hands out by 2; the hand-over is hidden.
-fn hand_over() -> Result<Hide<Parallel<Counter, Counter>>, CounterFault> {
+pub(crate) fn hand_over() -> Result<Hide<Parallel<Counter, Counter>>, CounterFault> {
     let both = Parallel::new(
         Counter::new(1, 0, 1)?,
         Counter::new(1, 1, 2)?,
@@ -47,6 +47,11 @@ fn two_counters(rt: HostRuntime) -> Result<(), Fail> {
             [0, 0, 0, 0, 0],
         ]
     );
+    for state in 0..4 {
+        for action in 4..32 {
+            assert!(rt; pile.visible(state, action).is_empty());
+        }
+    }
     Ok(())
 }
 

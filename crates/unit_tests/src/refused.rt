@@ -100,6 +100,7 @@ fn range(rt: HostRuntime) -> Result<(), Fail> {
         heap: rt.alloc(),
         reason: Reason::Range,
     };
+    assert_eq!(rt; range.reason.number(), 3);
     range.card(
         &rt,
         2,
