@@ -113,6 +113,11 @@ pub in_alone : (b : Bool) (k : ℕ) → T b → In k (cond b (2 ^ k) 0)
 in_alone true k t = in_power k
 in_alone false k t = absurd t
 
+-- a member of a set if b
+pub picked : (b : Bool) (q s : ℕ) → In q (cond b s 0) → (b ≡ true) × In q s
+picked true q s h = (refl, h)
+picked false q s h = absurd (not_empty q 0 h refl)
+
 -- unions and intersections
 or_digit : (x y : ℕ) → x < 2 → bit_or x y ≡ 1 → (x ≡ 1) ⊎ (y ≡ 1)
 or_digit zero y b e = inr (sym (or_zero_l y) ∙ e)

@@ -3,7 +3,7 @@ use Rattle.std.proofs.Common.{ℕ, ◌<◌, not, List, sym, subst, inl, inr, eqb
 use native.Mathlib.Decide.{ℕ_discrete}
 use lib.Dec.{not_T}
 use Rattle.lts.specs.Sets.{In, has, Subset, complement}
-use Rattle.lts.specs.System.{System, Lawful, LawfulTester}
+use Rattle.lts.specs.System.{System, Lawful}
 use Rattle.lts.specs.Traces.{Convergent, Acceptance}
 use Rattle.lts.specs.Order.{Actions}
 use Rattle.lts.proofs.Membership.{in_set, set_in}
@@ -19,7 +19,8 @@ use Rattle.testing.proofs.Truth.{eq_T}
 use Rattle.testing.proofs.Search.{look}
 use Rattle.testing.proofs.Laws.{path_actions, offer_below}
 use Rattle.testing.proofs.Decide.{and_dec, minimal_within}
-use Rattle.testing.proofs.Ladder.{ladder_lawful, reach_test_lem, settle_test_lem, offer_test_lem}
+use Rattle.testing.specs.TestsLawful.{test_lawful}
+use Rattle.testing.proofs.Ladder.{reach_test_lem, settle_test_lem, offer_test_lem}
 use Rattle.testing.proofs.SameTraces.{sound_yes}
 
 in_others : (S a : ℕ) → a < 32 → ¬ In a S → In a (complement 32 S)
@@ -54,11 +55,6 @@ module _ (l r : System) (ll : Lawful l) (lr : Lawful r) (s : List ℕ) (actions 
         (offer_test_lem l ll s actions (complement 32 S)).1 (convergent, bare_answers l ll s S none),
         λ h. let a = ((offer_test_lem r lr s actions (complement 32 S)).0 h).1 S bare.minimal.member in others_out S a.0 a.2 a.1,
       )
-
-test_lawful : (g : Ground) (s : List ℕ) → LawfulTester (test_of g s)
-test_lawful Reach s = ladder_lawful s _ 0
-test_lawful Settle s = ladder_lawful s _ 0
-test_lawful (Offer O) s = ladder_lawful s _ O.bits
 
 split_actions : (l r : System) → Lawful l → Lawful r → (s : List ℕ) (g : Ground) (p : Side) → Splits l r s g p → Actions s
 split_actions l r ll lr s Reach Left b = path_actions l ll b.0.1

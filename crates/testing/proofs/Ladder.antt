@@ -1,18 +1,17 @@
 -- What the distinguishing tests say. Assumes nothing.
-use Rattle.std.proofs.Common.{◌≡◌, ℕ, zero, suc, ◌+◌, ◌*◌, ◌^◌, ◌<◌, ◌≤◌, Bool, true, cond, ◌&&◌, ◌||◌, T, eqb, ltb, leb, ◌⊎◌, List, [], ◌∷◌, ◌++◌, length, drop, sym, refl, ap, ◌∙◌, subst, inl, inr, append-nil, suc-le-suc, zero-le, le_refl, le_of_suc-le-suc, not-suc-le-zero, arith, le→leb, eqb→eq, ltb→lt, lt→ltb, leb→le, pow_pos}
+use Rattle.std.proofs.Common.{◌≡◌, ℕ, zero, suc, ◌+◌, ◌*◌, ◌<◌, ◌≤◌, Bool, true, ◌&&◌, ◌||◌, T, eqb, ltb, leb, ◌⊎◌, List, [], ◌∷◌, ◌++◌, length, drop, sym, refl, ap, ◌∙◌, subst, inl, inr, append-nil, suc-le-suc, zero-le, le_refl, le_of_suc-le-suc, not-suc-le-zero, arith, le→leb, eqb→eq, ltb→lt, lt→ltb, leb→le}
 use native.Mathlib.Decide.{ℕ_discrete}
 use lib.Dec.{eqb_refl}
 use lib.Seq.{drop-length}
-use lib.Pow.{pow-lt}
 use Rattle.lts.specs.Sets.{In, has}
-use Rattle.lts.specs.System.{System, Lawful, LawfulTester}
+use Rattle.lts.specs.System.{System, Lawful}
 use Rattle.lts.specs.Traces.{Hidden, Visible, After, stay, Convergent, Stable, Acceptance, offer}
 use Rattle.lts.specs.Order.{Actions}
 use Rattle.lts.proofs.Membership.{some_member, not_empty, alone_in, in_alone}
 use Rattle.testing.specs.Testing.{Step, by_system, by_test, by_both, Stuck, Must}
 use Rattle.testing.specs.Distinguish.{leads, ladder, reach_test, offer_test}
 use Rattle.testing.specs.Theorems.{ReachTest, SettleTest, OfferTest, Answers}
-use Rattle.testing.proofs.Truth.{eq_T, or_T, T-left, T-right, and_T, T_and, at_cond}
+use Rattle.testing.proofs.Truth.{eq_T, or_T, T-left, T-right, and_T, T_and}
 use Rattle.testing.proofs.Search.{look}
 use Rattle.testing.proofs.Laws.{path_actions, offer_below, offered, offers}
 use Rattle.testing.proofs.Runs.{Moves, rest, alone, joint, Within, whole, apart, combine, Fails, visits_dec, avoiding, not_ended, convergent_along}
@@ -43,13 +42,6 @@ drop_end [] zero e b = refl
 drop_end [] (suc i) e b = absurd (not-suc-le-zero b)
 drop_end (a ∷ s) zero e b = let z : ◌≡◌ {A = ℕ} 0 1 = cc in absurd (omega arith)
 drop_end (a ∷ s) (suc i) e b = ap suc (drop_end s i e (le_of_suc-le-suc b))
-
--- the set of one number k, if b
-alone_below : (b : Bool) (k n : ℕ) → (T b → k < n) → cond b (2 ^ k) 0 < 2 ^ n
-alone_below b k n f = at_cond (λ (x : ℕ). x < 2 ^ n) b (2 ^ k) 0 (λ t. pow-lt (f t)) (λ t. pow_pos n)
-
-alone_none : (b : Bool) (k : ℕ) → ¬ T b → cond b (2 ^ k) 0 ≡ 0
-alone_none b k f = at_cond (λ (x : ℕ). x ≡ 0) b (2 ^ k) 0 (λ t. absurd (f t)) (λ t. refl)
 
 module _ (s : List ℕ) (f : ℕ → Bool) (O : ℕ) where
   abbrev seen : ℕ → ℕ → Bool
@@ -95,22 +87,6 @@ module _ (s : List ℕ) (f : ℕ → Bool) (O : ℕ) where
   of_offer a b h =
       let n = length s in
       in_alone (seen n a) (suc n) (T_and (ltb a 32) _ (lt→ltb a 32 b) (T-right (leads s n a) _ (T_and (eqb n n) (has a O) (eqb_refl n) (eq_T _ 1 h))))
-
-  -- it is a lawful test, whatever the trace
-  pub ladder_lawful : LawfulTester (ladder s f O)
-  unfolding ladder
-  ladder_lawful = record {
-    lawful = record {
-      nonempty = omega arith;
-      starts = omega arith;
-      visible_below = λ i a. alone_below (seen i a) (suc i) (length s + 2) (λ t. let b = (seen_is i a t).1 in omega arith);
-      hidden_below = λ i. alone_below (unseen i) (suc (length s)) (length s + 2) (λ t. omega arith);
-      visible_outside = λ i a b. alone_none (seen i a) (suc i) (λ t. let c = (seen_is i a t).1 in omega arith);
-      hidden_outside = λ i b. alone_none (unseen i) (suc (length s)) (λ t. let c = (unseen_is i t).0 in omega arith);
-      no_action = λ i a b. alone_none (seen i a) (suc i) (λ t. let c = (seen_is i a t).0 in omega arith);
-    };
-    passing = λ x t. let e = eqb→eq x (suc (length s)) t in omega arith;
-  }
 
   last_passes : (x : ℕ) → x ≡ suc (length s) → T ((ladder s f O).passes x)
   unfolding ladder

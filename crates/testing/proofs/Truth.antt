@@ -1,5 +1,5 @@
 -- Tests as types: what holds when a test is true. Assumes nothing.
-use Rattle.std.proofs.Common.{◌≡◌, ℕ, Bool, true, false, cond, not, ◌&&◌, ◌||◌, T, eqb, ◌⊎◌, subst, inl, inr}
+use Rattle.std.proofs.Common.{◌≡◌, ℕ, Bool, true, false, ◌&&◌, ◌||◌, T, eqb, ◌⊎◌, subst, inl, inr}
 use lib.Dec.{eqb_refl}
 
 pub dec_T : (b : Bool) → Dec (T b)
@@ -28,8 +28,3 @@ and_T false b t = absurd t
 pub T_and : (a b : Bool) → T a → T b → T (a && b)
 T_and true b s t = t
 T_and false b s t = absurd s
-
--- a fact about a choice, from each case of the test
-pub at_cond : {A : Type 0} (P : A → Type 0) (b : Bool) (x y : A) → (T b → P x) → (T (not b) → P y) → P (cond b x y)
-at_cond P true x y f g = f tt
-at_cond P false x y f g = g tt
