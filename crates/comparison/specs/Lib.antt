@@ -1,5 +1,7 @@
 pub mod Pairs
 pub mod Exploration
 pub mod Calls
+pub mod Comparing
 pub mod Law
+pub mod Promise
 pub mod Examples
