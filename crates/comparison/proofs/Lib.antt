@@ -9,3 +9,4 @@ pub mod Histories
 pub mod Proved
 pub mod Sides
 pub mod Promised
+pub mod SystemExamples

@@ -5,3 +5,4 @@ pub mod Comparing
 pub mod Law
 pub mod Promise
 pub mod Examples
+pub mod SystemExamples
