@@ -10,3 +10,4 @@ pub mod Proved
 pub mod Sides
 pub mod Promised
 pub mod SystemExamples
+pub mod Telling
