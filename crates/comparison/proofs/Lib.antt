@@ -9,5 +9,6 @@ pub mod Histories
 pub mod Proved
 pub mod Sides
 pub mod Promised
+pub mod Reported
 pub mod SystemExamples
 pub mod Telling

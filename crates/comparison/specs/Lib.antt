@@ -4,5 +4,6 @@ pub mod Calls
 pub mod Comparing
 pub mod Law
 pub mod Promise
+pub mod Report
 pub mod Examples
 pub mod SystemExamples
