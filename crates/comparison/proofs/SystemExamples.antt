@@ -1,5 +1,6 @@
 -- The worked examples of systems side by side, by computation. Assumes nothing.
 use Rattle.std.proofs.Common.{◌≡◌, ℕ, ◌≤◌, true, List, [], ◌∷◌, refl, arith}
+use Rattle.std.specs.Fmt.{digits}
 use Rattle.std.proofs.lemmas.List.Elements.{All-from_recursion}
 use Rattle.lts.specs.Sets.{set_of}
 use Rattle.lts.specs.System.{Lawful, blank}
@@ -18,6 +19,8 @@ use Rattle.layers.specs.Hiding.{silenced, hide}
 use Rattle.layers.specs.Silencing.{hide_lawful}
 use Rattle.layers.specs.Parallel.{together, separately, parallel}
 use Rattle.layers.specs.Composing.{parallel_lawful}
+use Rattle.cards.specs.Bytes.{file_words, read_bytes, read_sides}
+use Rattle.printing.specs.Numerals.{hex_digits}
 use Rattle.testing.specs.Rule.{first_bare}
 use Rattle.comparison.specs.Exploration.{sweep, handle, advance}
 use Rattle.comparison.specs.Calls.{history_from}
@@ -49,24 +52,24 @@ abbrev evening_lines : List Line
 evening_lines = act 0 0 1 ∷ act 0 0 2 ∷ act 1 1 3 ∷ act 2 2 3 ∷ []
 
 pub worked : Worked
-unfolding set_of image spread staying lasting next next_all first covered without placed offered minimal_below targets lines_fit check_from lines_in passing_in read_words with_all decode silenced together separately first_bare sweep handle advance history_from
+unfolding set_of image spread staying lasting next next_all first covered without placed offered minimal_below targets lines_fit check_from lines_in passing_in read_words with_all decode silenced together separately first_bare sweep handle advance history_from file_words read_bytes read_sides hex_digits digits
 worked = All-from_recursion AsExpected examples (
-  record { lawful = (blank_lawful, blank_lawful); told = refl },
+  record { lawful = (blank_lawful, blank_lawful); told = refl; printed = refl },
   (
-    record { lawful = (lines_lawful 3 morning_lines (omega arith) refl, lines_lawful 4 evening_lines (omega arith) refl); told = refl },
+    record { lawful = (lines_lawful 3 morning_lines (omega arith) refl, lines_lawful 4 evening_lines (omega arith) refl); told = refl; printed = refl },
     (
-      record { lawful = tt; told = refl },
+      record { lawful = tt; told = refl; printed = refl },
       (
-        record { lawful = (blank_lawful, lines_lawful 1 idle (omega arith) refl); told = refl },
+        record { lawful = (blank_lawful, lines_lawful 1 idle (omega arith) refl); told = refl; printed = refl },
         (
-          record { lawful = (lines_lawful 1 idle (omega arith) refl, lines_lawful 1 idle_able (omega arith) refl); told = refl },
+          record { lawful = (lines_lawful 1 idle (omega arith) refl, lines_lawful 1 idle_able (omega arith) refl); told = refl; printed = refl },
           (
-            record { lawful = (lines_lawful 4 two_ways (omega arith) refl, lines_lawful 3 one_way (omega arith) refl); told = refl },
+            record { lawful = (lines_lawful 4 two_ways (omega arith) refl, lines_lawful 3 one_way (omega arith) refl); told = refl; printed = refl },
             (
-              record { lawful = (lines_lawful 3 ring (omega arith) refl, lines_lawful 3 ring (omega arith) refl); told = refl },
+              record { lawful = (lines_lawful 3 ring (omega arith) refl, lines_lawful 3 ring (omega arith) refl); told = refl; printed = refl },
               (
-                record { lawful = (lines_lawful 3 ring (omega arith) refl, lines_lawful 3 ring (omega arith) refl); told = refl },
-                (record { lawful = (line_lawful, counter_lawful 2 0 2 (omega arith) (omega arith)); told = refl }, tt),
+                record { lawful = (lines_lawful 3 ring (omega arith) refl, lines_lawful 3 ring (omega arith) refl); told = refl; printed = refl },
+                (record { lawful = (line_lawful, counter_lawful 2 0 2 (omega arith) (omega arith)); told = refl; printed = refl }, tt),
               ),
             ),
           ),

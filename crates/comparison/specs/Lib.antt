@@ -5,5 +5,7 @@ pub mod Comparing
 pub mod Law
 pub mod Promise
 pub mod Report
+pub mod Told
+pub mod Printed
 pub mod Examples
 pub mod SystemExamples
