@@ -115,7 +115,7 @@ one_can = record {
   printed = codes "APART rows 1 ground REACH passer RIGHT offer 00000000 track 0";
 }
 
--- a silent choice of two states that offer action 0, one of them action 1 as well; and the first of them with action 1 at the start
+-- a silent choice, of action 0 or of actions 0 and 1; and action 1, or a silent step and then action 0
 abbrev pub two_ways : List Line
 two_ways = silent 0 1 ∷ silent 0 2 ∷ act 1 0 3 ∷ act 2 0 3 ∷ act 2 1 3 ∷ []
 
