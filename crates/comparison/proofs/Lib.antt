@@ -7,7 +7,7 @@ pub mod Verdicts
 pub mod Stages
 pub mod Histories
 pub mod Proved
-pub mod Sides
+pub mod SystemPairs
 pub mod Promised
 pub mod Reported
 pub mod Telling

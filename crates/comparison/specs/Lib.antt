@@ -6,3 +6,5 @@ pub mod Law
 pub mod Promise
 pub mod Report
 pub mod Examples
+pub mod Pairing
+pub mod Outcomes
