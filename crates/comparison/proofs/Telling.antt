@@ -1,17 +1,11 @@
 -- How a pair splits two systems, told from what is shown of each. Assumes nothing.
 use Rattle.std.proofs.Common.{◌≡◌, ℕ, Bool, true, false, ◌&&◌, List, refl, ap, ◌∙◌}
 use Rattle.lts.specs.System.{System}
-use Rattle.traces.specs.Macrostates.{Macrostate}
 use Rattle.traces.specs.Families.{minimal}
 use Rattle.testing.specs.declared.ground.Shown.{Shown}
 use Rattle.testing.specs.Judging.{does, settles, minimal_sets, by_convergence, split_rule, told}
 use Rattle.comparison.specs.Comparing.{Pair, can_do, pair_split}
-
--- this is what the macrostate x of m shows: the sets count only where m can do the trace and is convergent along it
-pub record ShownIn (m : System) (x : Macrostate) (s : Shown) : Type 0 where
-  pub able : does s ≡ can_do x
-  pub settled : settles s ≡ (can_do x && x.convergent)
-  pub sets : settles s ≡ true → minimal_sets s ≡ minimal m x.states
+use Rattle.comparison.specs.Showing.{ShownIn}
 
 same_sets : (a b c d : Bool) (xs ys zs us : List ℕ) → (c ≡ true → xs ≡ zs) → (d ≡ true → ys ≡ us) → split_rule a b c d xs ys ≡ split_rule a b c d zs us
 same_sets true true true true xs ys zs us p q = ap (λ l. by_convergence true true l ys) (p refl) ∙ ap (λ l. by_convergence true true zs l) (q refl)

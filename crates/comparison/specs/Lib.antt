@@ -8,3 +8,4 @@ pub mod Report
 pub mod Examples
 pub mod Pairing
 pub mod Outcomes
+pub mod Showing

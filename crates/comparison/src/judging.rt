@@ -1,14 +1,12 @@
-// What a trace comes to, told from what it shows of two systems.
-ghost use Rattle.std.specs.Prelude.{◌≡◌, true, ◌&&◌};
+// What a pair comes to, told from what its macrostates show of the two systems.
+ghost use Rattle.std.specs.Prelude.{◌≡◌};
+ghost use Rattle.traces.specs.Compiled.{system_of};
 ghost use Rattle.traces.specs.Shown.{shown as macrostate_of};
-ghost use Rattle.testing.specs.Judging.{does, settles, minimal_sets, told};
-ghost use Rattle.comparison.specs.Comparing.{can_do, unless_split};
-ghost use Rattle.comparison.specs.Pairing.{pair_of};
-ghost use Rattle.comparison.specs.Outcomes.{outcome_of};
+ghost use Rattle.comparison.specs.Showing.{ShownIn};
 
 use crate::pair::Pair;
 use testing::ground::{Shown, Split};
-use testing::splitting::split;
+use traces::compiled::Compiled;
 use traces::family::Family;
 use traces::macrostate::Macrostate;
 
@@ -20,24 +18,19 @@ pub(crate) enum Outcome {
     Meets(Pair),
 }
 
-// What a macrostate shows, given its minimal sets.
-pub(crate) fn shown(macrostate: Macrostate, sets: &Family) -> Shown<'_>
-    ensures able { does result ≡ can_do (macrostate_of macrostate) }
-    ensures settled { settles result ≡ (can_do (macrostate_of macrostate) && macrostate.convergent) }
-    ensures sets { settles result ≡ true → minimal_sets result ≡ sets.now }
+// What a macrostate shows of the system. Its minimal sets are worked out in the family that is lent, so that no memory is wanted.
+pub(crate) fn shown<'a>(
+    system: &Compiled,
+    macrostate: Macrostate,
+    sets: &'a mut Family,
+) -> Shown<'a>
+    ensures { ShownIn (system_of system.now) (macrostate_of macrostate) result }
 {
     if macrostate.states.is_empty() {
         Shown::Unable
-    } else if macrostate.convergent {
+    } else if system.acceptance_into(macrostate, sets) {
         Shown::Offers(sets.members())
     } else {
         Shown::Divergent
     }
-}
-
-// A pair splits the systems, or else is met.
-pub(crate) fn split_or_met(pair: Pair, left: Shown<'_>, right: Shown<'_>) -> Outcome
-    ensures { outcome_of result ≡ unless_split (pair_of pair) (told left.entry right.entry) }
-{
-    split(left, right).map_or(Outcome::Meets(pair), Outcome::Splits)
 }
