@@ -10,4 +10,3 @@ pub mod Proved
 pub mod SystemPairs
 pub mod Promised
 pub mod Reported
-pub mod Telling

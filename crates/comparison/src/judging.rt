@@ -11,7 +11,7 @@ use traces::family::Family;
 use traces::macrostate::Macrostate;
 
 // Skipped: neither system can do the trace. Splits: it splits the two. Meets: it does not, and leads to this pair.
-#[derive(Clone, Copy, PartialEq, Eq, Debug)]
+#[derive(Clone, Copy)]
 pub(crate) enum Outcome {
     Skipped,
     Splits(Split),
