@@ -11,3 +11,5 @@ pub mod Sides
 pub mod Promised
 pub mod Reported
 pub mod Telling
+pub mod RowSteps
+pub mod RowTraces

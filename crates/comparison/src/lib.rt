@@ -2,4 +2,7 @@
 #![tactic(auto)]
 
 pub mod laws;
+mod pair;
 pub mod refusal;
+mod row;
+mod rows;
