@@ -10,3 +10,5 @@ pub mod Proved
 pub mod SystemPairs
 pub mod Promised
 pub mod Reported
+pub mod RowSteps
+pub mod RowTraces

@@ -2,6 +2,8 @@ pub mod Pairs
 pub mod Exploration
 pub mod Calls
 pub mod Comparing
+pub mod Pairing
+pub mod Rows
 pub mod Law
 pub mod Promise
 pub mod Report

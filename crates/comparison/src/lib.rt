@@ -5,4 +5,6 @@ mod judging;
 pub mod laws;
 mod pair;
 pub mod refusal;
+mod row;
+mod rows;
 mod sides;

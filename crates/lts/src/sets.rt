@@ -6,7 +6,7 @@ use crate::members::Members;
 use crate::word::Word;
 
 // A set of numbers below the width of a word; bit k stands for the number k.
-#[derive(Clone, Copy, PartialEq, Eq, Debug)]
+#[derive(Clone, Copy, PartialEq, Eq, Hash, Debug)]
 pub struct Set<W> {
     bits: W,
 }
