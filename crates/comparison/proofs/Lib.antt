@@ -12,3 +12,6 @@ pub mod Promised
 pub mod Reported
 pub mod RowSteps
 pub mod RowTraces
+pub mod ExplorationSteps
+pub mod Systems
+pub mod CallSteps

@@ -8,6 +8,9 @@ pub mod Law
 pub mod Promise
 pub mod Report
 pub mod Examples
-pub mod Pairing
 pub mod Outcomes
 pub mod Showing
+pub mod Replies
+pub mod Explored
+pub mod Compared
+pub mod Filled
