@@ -7,3 +7,11 @@ pub mod Verdicts
 pub mod Stages
 pub mod Histories
 pub mod Proved
+pub mod SystemPairs
+pub mod Promised
+pub mod Reported
+pub mod RowSteps
+pub mod RowTraces
+pub mod ExplorationSteps
+pub mod Systems
+pub mod CallSteps

@@ -1,5 +1,16 @@
 pub mod Pairs
 pub mod Exploration
 pub mod Calls
+pub mod Comparing
+pub mod Pairing
+pub mod Rows
 pub mod Law
+pub mod Promise
+pub mod Report
 pub mod Examples
+pub mod Outcomes
+pub mod Showing
+pub mod Replies
+pub mod Explored
+pub mod Compared
+pub mod Filled

@@ -2,6 +2,8 @@
 ghost use Rattle.std.specs.Prelude.{◌≡◌};
 ghost use Rattle.comparison.specs.Calls.{number_of};
 
+use testing::distinguishing::TraceFault;
+
 #[derive(Clone, Copy, PartialEq, Eq, Debug)]
 pub enum Refusal {
     // copy, when the caller's buffer is shorter than the trace
@@ -10,8 +12,10 @@ pub enum Refusal {
     LimitOrCount = 9,
     // advance, when the answer is not OPEN
     NotOpen = 10,
-    // copy, when the answer is not APART
+    // copy, and filling a distinguishing test, when the answer is not APART
     NotApart = 11,
+    // filling a distinguishing test, when the trace has more than 62 actions
+    LongTrace = 12,
 }
 
 impl Refusal {
@@ -20,5 +24,15 @@ impl Refusal {
         ensures { result ≡ number_of self }
     {
         self as u8
+    }
+}
+
+impl From<TraceFault> for Refusal {
+    ghost use Rattle.comparison.specs.declared.refusal.Refusal.TheVariants.{LongTrace};
+
+    ghost from_gives = { λ _ r. r ≡ LongTrace };
+
+    fn from(_: TraceFault) -> Refusal {
+        Refusal::LongTrace
     }
 }

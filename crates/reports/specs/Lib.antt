@@ -1,0 +1,3 @@
+pub mod Told
+pub mod Printed
+pub mod SystemExamples
