@@ -7,7 +7,7 @@ use crate::word::Word;
 
 // A set of numbers below the width of a word; bit k stands for the number k. Clauses name its bits. A model that shows the number alone would lose that it
 // has room in the word, and the derived equality would want a way back from numbers to words.
-#[derive(Clone, Copy, PartialEq, Eq, Debug)]
+#[derive(Clone, Copy, PartialEq, Eq, Hash, Debug)]
 pub struct Set<W> {
     bits: W,
 }
