@@ -15,3 +15,4 @@ pub mod RowTraces
 pub mod ExplorationSteps
 pub mod Systems
 pub mod CallSteps
+pub mod ReportSteps

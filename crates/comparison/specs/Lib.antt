@@ -14,3 +14,4 @@ pub mod Replies
 pub mod Explored
 pub mod Compared
 pub mod Filled
+pub mod Reporting

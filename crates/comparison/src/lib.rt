@@ -1,7 +1,8 @@
-// The comparison of two systems: the law of its exploration.
+// The comparison of two systems: its calls, what they promise, and the law of its exploration.
 #![tactic(auto)]
 
 pub mod answer;
+pub mod calls;
 pub mod comparison;
 mod exploration;
 mod exploring;
@@ -9,6 +10,7 @@ mod judging;
 pub mod laws;
 mod pair;
 pub mod refusal;
+pub mod report;
 mod row;
 mod rows;
 mod sides;
