@@ -1,5 +1,5 @@
 -- What two cards or tests hold after reading, and the text of them. Assumes nothing.
-use Rattle.std.proofs.Common.{◌≡◌, ℕ, List, Ok, Err, Result, sym, ap, ◌∙◌, subst}
+use Rattle.std.proofs.Common.{◌≡◌, ℕ, List, Ok, Result, ap, ◌∙◌, subst}
 use Rattle.cards.specs.declared.faults.CardFault.{CardFault}
 use Rattle.cards.specs.declared.lines.Role.TheVariants.{Card, Test}
 use Rattle.cards.specs.Bytes.{read_bytes}

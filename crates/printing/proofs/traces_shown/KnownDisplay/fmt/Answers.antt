@@ -1,4 +1,4 @@
-use Rattle.std.proofs.Common.{rules, ◌≡◌, ℕ, List, ◌++◌, get_or, codes, refl, sym, ap, ◌∙◌, arith}
+use Rattle.std.proofs.Common.{rules, ℕ, List, ◌++◌, get_or, codes, refl, sym, ap, ◌∙◌, arith}
 use Rattle.std.specs.Fmt.{HasWritten}
 use Rattle.std.proofs.Output.{has_written_append, has_written_of_eq}
 use Rattle.std.proofs.lemmas.Grind.{put_three, put_six}
@@ -8,7 +8,7 @@ use Rattle.std.proofs.lemmas.List.Folds.{flat_map-map}
 use Rattle.lts.specs.Sets.{members}
 use Rattle.lts.specs.SetTypes.{ActionSet}
 use Rattle.printing.specs.Shown.{newline}
-use Rattle.printing.specs.Trails.{numbers_text, convergent_text, accept_text}
+use Rattle.printing.specs.Trails.{numbers_text, accept_text}
 use Rattle.printing.proofs.Members.{drained}
 use Rattle.printing.proofs.Texts.{each_more, each_done}
 use Rattle.printing.proofs.traces_shown.KnownDisplay.fmt.Goals as goal
