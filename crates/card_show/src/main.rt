@@ -24,12 +24,11 @@ fn two_counters(heap: Global) -> anyhow::Result<String> {
     Ok(system_text(heap, &Hide::new(both, between))?)
 }
 
-// The bytes of a file that are looked at.
+// How many bytes of a file are looked at. It is read into fixed memory: the public call fills a caller's buffer.
 const LOOKED_AT: usize = 1292;
 
 // What a file is or, with a trace, where that leads.
 fn shown(rt: &HostRuntime, path: &str, trace: &[u8]) -> Result<String, AllocError> {
-    // A file is read into fixed memory, as far as it is looked at: the public call fills a caller's buffer.
     let mut buffer = [0; LOOKED_AT];
     let count = read_start(rt, path, &mut buffer);
     let bytes = &buffer[..count];

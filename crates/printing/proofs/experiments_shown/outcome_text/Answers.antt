@@ -1,4 +1,4 @@
-use Rattle.std.proofs.Common.{rules, ◌≡◌, ℕ, List, IfOk, string_bytes, subst}
+use Rattle.std.proofs.Common.{rules, string_bytes}
 use Rattle.std.proofs.lemmas.Result.{IfOk-weaker}
 use Rattle.testing.specs.Experiments.{tester}
 use Rattle.printing.specs.Experiments.{outcome_text, Tells}
@@ -20,4 +20,4 @@ returns-in-Some-clause-text g c =
     let m = g.S.Lts.meaning c.args.system.now in
     let e = tester (g.T.Lts.meaning c.args.test.now) (g.T.Test.passing c.args.test.now) in
     let same = refused m e c.in-Err.refusal c.in-Some.number c.in-Some.ensures c.in-Err.ensures.value in
-    subst (λ (t : List ℕ). IfOk c.format.result (λ s. string_bytes s ≡ t)) same c.format.ensures.ok
+    search rules
