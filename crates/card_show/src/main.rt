@@ -1,13 +1,15 @@
-// Shows what a card file is, `card_show FILE`, or where a trace leads, `card_show FILE ACTION...`; `card_show --two-counters` shows a built-in composition.
+// Shows what a card file is, `card_show FILE`, where a trace leads, `card_show FILE ACTION...`, or what joint runs beside a test file say,
+// `card_show FILE --beside TESTFILE`; `card_show --two-counters` shows a built-in composition.
 #![tactic(auto)]
 
-use anyhow::Context;
+use anyhow::{Context, bail};
 use input::read_start;
 use layers::counter::Counter;
 use layers::hide::Hide;
 use layers::parallel::Parallel;
 use lts::sets::ActionSet;
 use printing::cards_shown::file_text;
+use printing::experiments_shown::experiment_text;
 use printing::systems_shown::system_text;
 use printing::traces_shown::trace_text;
 use std::alloc::{AllocError, Global};
@@ -22,10 +24,12 @@ fn two_counters(heap: Global) -> anyhow::Result<String> {
     Ok(system_text(heap, &Hide::new(both, between))?)
 }
 
+// How many bytes of a file are looked at. It is read into fixed memory: the public call fills a caller's buffer.
+const LOOKED_AT: usize = 1292;
+
 // What a file is or, with a trace, where that leads.
 fn shown(rt: &HostRuntime, path: &str, trace: &[u8]) -> Result<String, AllocError> {
-    // A file is read into fixed memory, as far as it is looked at: the public call fills a caller's buffer.
-    let mut buffer = [0; 1292];
+    let mut buffer = [0; LOOKED_AT];
     let count = read_start(rt, path, &mut buffer);
     let bytes = &buffer[..count];
     if trace.is_empty() {
@@ -35,19 +39,39 @@ fn shown(rt: &HostRuntime, path: &str, trace: &[u8]) -> Result<String, AllocErro
     }
 }
 
+// What joint runs of a card file and a test file say.
+fn beside(rt: &HostRuntime, card_path: &str, test_path: &str) -> Result<String, AllocError> {
+    let mut card = [0; LOOKED_AT];
+    let mut test = [0; LOOKED_AT];
+    let card_count = read_start(rt, card_path, &mut card);
+    let test_count = read_start(rt, test_path, &mut test);
+    experiment_text(rt.alloc(), &card[..card_count], &test[..test_count])
+}
+
+// How the program is called.
+const USAGE: &str =
+    "usage: card_show FILE [ACTION...], card_show FILE --beside TESTFILE, or card_show --two-counters";
+
 fn run(rt: &HostRuntime) -> anyhow::Result<()> {
     let mut args = env::args(rt)?.skip(1);
-    let path = args.next().context(
-        "usage: card_show FILE [ACTION...], or card_show --two-counters",
-    )?;
+    let path = args.next().context(USAGE)?;
     if path.as_str() == "--two-counters" {
         rt.print(two_counters(rt.alloc())?)?;
         return Ok(());
     }
-    let trace: Vec<u8> = args
-        .map(|action| action.as_str().parse::<u8>().map_err(anyhow::Error::from))
-        .try_collect(rt.alloc())?;
-    rt.print(shown(rt, path.as_str(), trace.as_slice())?)?;
+    let words: Vec<String> = args.collect(rt.alloc())?;
+    let text = match words.as_slice() {
+        [flag, test] if flag.as_str() == "--beside" => beside(rt, path.as_str(), test.as_str())?,
+        [flag, ..] if flag.as_str() == "--beside" => bail!(USAGE),
+        actions => {
+            let trace: Vec<u8> = actions
+                .iter()
+                .map(|action| action.as_str().parse::<u8>().map_err(anyhow::Error::from))
+                .try_collect(rt.alloc())?;
+            shown(rt, path.as_str(), trace.as_slice())?
+        }
+    };
+    rt.print(text)?;
     Ok(())
 }
 

@@ -1,5 +1,5 @@
 -- Where a trace leads, as text. Assumes nothing.
-use Rattle.std.specs.Prelude.{ℕ, Bool, true, false, cond, List, [], ◌∷◌, ◌++◌, Ok, Err, codes, decimal, Result}
+use Rattle.std.specs.Prelude.{ℕ, Bool, cond, List, [], ◌∷◌, ◌++◌, Ok, Err, codes, decimal, Result}
 use Rattle.std.specs.List.{flat_map}
 use Rattle.lts.specs.Sets.{members}
 use Rattle.lts.specs.System.{System}
@@ -10,6 +10,7 @@ use Rattle.cards.specs.declared.lines.Role.TheVariants.{Card}
 use Rattle.cards.specs.Bytes.{read_bytes}
 use Rattle.cards.specs.Contents.{Contents}
 use Rattle.cards.specs.Lines.{system_of}
+use Rattle.printing.specs.Answers.{yes_or_no}
 use Rattle.printing.specs.Shown.{newline, fault_text}
 
 -- numbers, each after a blank
@@ -30,8 +31,7 @@ abbrev pub accepts_text : List ℕ → List ℕ
 accepts_text ss = flat_map accept_text ss
 
 abbrev pub convergent_text : Bool → List ℕ
-convergent_text true = codes "\nconvergent yes\n"
-convergent_text false = codes "\nconvergent no\n"
+convergent_text b = codes "\nconvergent " ++ (yes_or_no b ++ newline)
 
 -- the trace s, the states q after it, whether these are convergent, and sets of actions
 abbrev pub trail_text : List ℕ → ℕ → Bool → List ℕ → List ℕ

@@ -3,6 +3,7 @@ ghost use Rattle.std.specs.Prelude.{◌≡◌, ◌++◌, IfOk, Some, string_byte
 ghost use Rattle.traces.specs.Offered.{bits_of};
 ghost use Rattle.printing.specs.Trails.{trail_text, known_text, trace_text};
 
+use crate::answers::yes_or_no;
 use crate::cards_shown::fault_text;
 use crate::numbers::write_numbers;
 use cards::written_card::WrittenCard;
@@ -30,7 +31,7 @@ impl fmt::Display for Known<'_> {
         write_numbers(f, self.trace.iter().map(|action| usize::from(*action)))?;
         write!(f, "\nstates")?;
         write_numbers(f, self.at.states.members())?;
-        let convergent = if self.at.convergent { "yes" } else { "no" };
+        let convergent = yes_or_no(self.at.convergent);
         write!(f, "\nconvergent {convergent}\n")?;
         for set in self.accepts {
             write!(f, "accepts")?;

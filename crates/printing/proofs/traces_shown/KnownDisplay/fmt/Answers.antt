@@ -1,4 +1,4 @@
-use Rattle.std.proofs.Common.{rules, ◌≡◌, ℕ, List, ◌++◌, get_or, codes, refl, sym, ap, ◌∙◌, arith}
+use Rattle.std.proofs.Common.{rules, ℕ, List, ◌++◌, get_or, codes, refl, sym, ap, ◌∙◌, arith}
 use Rattle.std.specs.Fmt.{HasWritten}
 use Rattle.std.proofs.Output.{has_written_append, has_written_of_eq}
 use Rattle.std.proofs.lemmas.Grind.{put_three, put_six}
@@ -8,11 +8,10 @@ use Rattle.std.proofs.lemmas.List.Folds.{flat_map-map}
 use Rattle.lts.specs.Sets.{members}
 use Rattle.lts.specs.SetTypes.{ActionSet}
 use Rattle.printing.specs.Shown.{newline}
-use Rattle.printing.specs.Trails.{numbers_text, convergent_text, accept_text}
+use Rattle.printing.specs.Trails.{numbers_text, accept_text}
 use Rattle.printing.proofs.Members.{drained}
 use Rattle.printing.proofs.Texts.{each_more, each_done}
 use Rattle.printing.proofs.traces_shown.KnownDisplay.fmt.Goals as goal
-use Rattle.printing.proofs.traces_shown.KnownDisplay.fmt.Goals.{then-self, else-self}
 
 pub loop-set-preserved : goal.loop-set-preserved
 loop-set-preserved g c p =
@@ -39,12 +38,7 @@ returns-clause-writes g c p k =
     let shown = c.in_ok-write_numbers-2.ensures refl in
     let listed = drained shown.0 c.members.result shown.1 ∙ ap members c.members.ensures.value in
     let states = has_written_of_eq _ _ _ _ _ (ap numbers_text listed) (shown.2 label.plain) in
-    let word = c.if-self.convergent.now in
-    let line : HasWritten g.W.Write.write_str_gives c.write_numbers-2.new.f (codes "\nconvergent " ++ (word ++ newline)) c.write-3.new.self = search rules in
-    let same : codes "\nconvergent " ++ (word ++ newline) ≡ convergent_text known.at.convergent = elim c.if-self.branch [
-      | then-self w ↦ ap (λ (bs : List ℕ). codes "\nconvergent " ++ (bs ++ newline)) (ap (λ s. s.now) w.convergent-is) ∙ ap convergent_text (sym w.if-self.true)
-      | else-self w ↦ ap (λ (bs : List ℕ). codes "\nconvergent " ++ (bs ++ newline)) (ap (λ s. s.now) w.convergent-is) ∙ ap convergent_text (sym w.if-self.false)
-    ] in
-    let convergent = has_written_of_eq _ _ _ _ _ same line in
+    let line : HasWritten g.W.Write.write_str_gives c.write_numbers-2.new.f (codes "\nconvergent " ++ (c.yes_or_no-convergent.result.now ++ newline)) c.write-3.new.self = search rules in
+    let convergent = has_written_of_eq _ _ _ _ _ (ap (λ (bs : List ℕ). codes "\nconvergent " ++ (bs ++ newline)) c.yes_or_no-convergent.ensures) line in
     let sets = has_written_of_eq _ _ _ _ _ (each_done (λ (a : ActionSet). accept_text a.bits) known.accepts.now known.accepts.now c.loop-set.set-index c.loop-set-test.false refl ∙ sym (flat_map-map accept_text (λ (a : ActionSet). a.bits) known.accepts.now)) (c.loop-set.invariant convergent.plain) in
     put_six _ _ _ _ _ _ _ _ _ _ _ _ _ _ _ head trace label states convergent sets refl
