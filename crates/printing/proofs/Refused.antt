@@ -5,13 +5,13 @@ use Rattle.std.specs.Fmt.{digits}
 use Rattle.lts.specs.System.{System, Tester}
 use Rattle.testing.specs.declared.experiment.ExperimentFault.{ExperimentFault}
 use Rattle.testing.specs.declared.experiment.ExperimentFault.TheVariants.{TooLarge, Memory}
-use Rattle.testing.specs.Experiments.{Answers, outcome_of, number}
+use Rattle.testing.specs.Experiments.{Tells, outcome_of, number}
 use Rattle.testing.specs.JointPairs.{pair_count}
 use Rattle.printing.specs.Shown.{newline}
 use Rattle.printing.specs.Experiments.{told_text, outcome_text}
 
 -- only too many joint pairs have a number
-pub refused : (m : System) (e : Tester) (f : ExperimentFault) (n : ℕ) → Some n ≡ number f → Answers m e (Err f) → codes "REFUSED " ++ (decimal n ++ newline) ≡ outcome_text m e
+pub refused : (m : System) (e : Tester) (f : ExperimentFault) (n : ℕ) → Some n ≡ number f → Tells m e (Err f) → codes "REFUSED " ++ (decimal n ++ newline) ≡ outcome_text m e
 unfolding outcome_text digits
 refused m e TooLarge n s a =
     let seven : n ≡ 7 = cc in
