@@ -1,5 +1,5 @@
 // The call that carries the main theorem: a comparison opened, called, and asked in the end.
-ghost use Rattle.std.specs.Prelude.{◌≡◌, IfOk, MatchResult};
+ghost use Rattle.std.specs.Prelude.{◌≡◌, IfOk, IfErr, OnErr};
 ghost use Rattle.testing.specs.declared.ground.Split.{Split};
 ghost use Rattle.comparison.specs.Calls.{History, history, history_from, state_after};
 ghost use Rattle.comparison.specs.Comparing.{Pair, pairs};
@@ -57,8 +57,10 @@ pub fn report<L: Lts + Drop, R: Lts + Drop>(
     calls: &[Call],
     buffer: &mut [u8],
 ) -> Result<Report, Unopened<L, R>>
-    ensures value { MatchResult result (λ x. report_of x buffer.new ≡ report_by (L.meaning left) (R.meaning right) (calls_of calls.now) buffer.old) (λ back. (back.left ≡ left) × (back.right ≡ right) × (buffer.new ≡ buffer.old)) }
+    ensures value { IfOk result (λ x. report_of x buffer.new ≡ report_by (L.meaning left) (R.meaning right) (calls_of calls.now) buffer.old) }
     ensures promise { let h = history (pairs (L.meaning left) (R.meaning right)) (calls_of calls.now) in IfOk result (λ x. PromiseKept (L.meaning left) (R.meaning right) h.limit h.total buffer.old (report_of x buffer.new)) }
+    ensures back { IfErr result (λ unopened. (unopened.left ≡ left) × (unopened.right ≡ right)) }
+    ensures untouched { OnErr result (buffer.new ≡ buffer.old) }
 {
     let mut comparison = Comparison::open(heap, left, right)?;
     comparison.send_all(calls);

@@ -109,10 +109,9 @@ fn limits(rt: HostRuntime) -> Result<(), Fail> {
 fn ring(states: u32, heap: Global) -> Result<Vec<u32>, Fail> {
     let mut words = Vec::new(heap);
     words.push(0x1000_0000 | states << 16 | states)?;
-    for state in 1..states {
-        words.push(0x2000_0000 | (state - 1) << 11 | state)?;
+    for state in 0..states {
+        words.push(0x2000_0000 | state << 11 | (state + 1) % states)?;
     }
-    words.push(0x2000_0000 | (states - 1) << 11)?;
     words.push(0x5000_0000)?;
     Ok(words)
 }
