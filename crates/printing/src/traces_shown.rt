@@ -1,7 +1,7 @@
 // Where a trace leads, as text.
 ghost use Rattle.std.specs.Prelude.{◌≡◌, ◌++◌, IfOk, Some, string_bytes};
 ghost use Rattle.traces.specs.Offered.{bits_of};
-ghost use Rattle.printing.specs.Trails.{trail_text, known_text, trace_text};
+ghost use Rattle.printing.specs.Trails.{numbers_text, trail_text, known_text, trace_text};
 
 use crate::answers::yes_or_no;
 use crate::cards_shown::fault_text;
@@ -15,6 +15,18 @@ use traces::compile::compile_lent;
 use traces::family::Family;
 use traces::macrostate::Macrostate;
 
+// The actions of a trace, each after a blank, or a dash where there are none.
+#[derive(Drop)]
+pub struct ActionsShown<'a>(pub &'a [u8]);
+
+impl fmt::Display for ActionsShown<'_> {
+    ghost output = { λ a. Some (numbers_text a.0.now) };
+
+    fn fmt<W: fmt::Write>(&self, f: &mut fmt::Formatter<W>) -> fmt::Result {
+        write_numbers(f, self.0.iter().map(|action| usize::from(*action)))
+    }
+}
+
 // What is known after a trace: where it leads and, if that is convergent, the minimal acceptance sets.
 #[derive(Drop)]
 struct Known<'a> {
@@ -27,9 +39,8 @@ impl fmt::Display for Known<'_> {
     ghost output = { λ k. Some (trail_text k.trace.now k.at.states.bits k.at.convergent (bits_of k.accepts.now)) };
 
     fn fmt<W: fmt::Write>(&self, f: &mut fmt::Formatter<W>) -> fmt::Result {
-        write!(f, "trace")?;
-        write_numbers(f, self.trace.iter().map(|action| usize::from(*action)))?;
-        write!(f, "\nstates")?;
+        let trace = ActionsShown(self.trace);
+        write!(f, "trace{trace}\nstates")?;
         write_numbers(f, self.at.states.members())?;
         let convergent = yes_or_no(self.at.convergent);
         write!(f, "\nconvergent {convergent}\n")?;

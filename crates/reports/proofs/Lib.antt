@@ -1,1 +1,2 @@
+mod LineSteps
 mod SystemExamples

@@ -2,3 +2,4 @@
 #![tactic(auto)]
 
 pub mod examples;
+pub mod lines;
