@@ -4,7 +4,7 @@ ghost use Rattle.testing.specs.declared.ground.Split.{Split};
 ghost use Rattle.comparison.specs.Calls.{History, history, history_from, state_after};
 ghost use Rattle.comparison.specs.Comparing.{Pair, pairs};
 ghost use Rattle.comparison.specs.Compared.{pairs_of, state_of, SameSystems};
-ghost use Rattle.comparison.specs.Report.{report as report_by, PromiseKept};
+ghost use Rattle.comparison.specs.Report.{report as report_by, PromiseKept, RowsTold};
 ghost use Rattle.comparison.specs.Reporting.{call_of, calls_of, report_of};
 
 use crate::calls::{Call, Report};
@@ -59,6 +59,7 @@ pub fn report<L: Lts + Drop, R: Lts + Drop>(
 ) -> Result<Report, Unopened<L, R>>
     ensures value { IfOk result (λ x. report_of x buffer.new ≡ report_by (L.meaning left) (R.meaning right) (calls_of calls.now) buffer.old) }
     ensures promise { let h = history (pairs (L.meaning left) (R.meaning right)) (calls_of calls.now) in IfOk result (λ x. PromiseKept (L.meaning left) (R.meaning right) h.limit h.total buffer.old (report_of x buffer.new)) }
+    ensures rows { let h = history (pairs (L.meaning left) (R.meaning right)) (calls_of calls.now) in IfOk result (λ x. RowsTold (L.meaning left) (R.meaning right) h.limit (report_of x buffer.new)) }
     ensures back { IfErr result (λ unopened. (unopened.left ≡ left) × (unopened.right ≡ right)) }
     ensures untouched { OnErr result (buffer.new ≡ buffer.old) }
 {

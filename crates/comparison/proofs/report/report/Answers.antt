@@ -4,10 +4,10 @@ use Rattle.comparison.specs.Pairs.{PairSystem}
 use Rattle.comparison.specs.Calls.{opened, history, history_from}
 use Rattle.comparison.specs.Comparing.{Pair, pairs}
 use Rattle.comparison.specs.Compared.{pairs_of, state_of}
-use Rattle.comparison.specs.Report.{Report, PromiseKept}
+use Rattle.comparison.specs.Report.{Report, PromiseKept, RowsTold}
 use Rattle.comparison.specs.Reporting.{calls_of}
 use Rattle.comparison.proofs.Systems.{same_pairs}
-use Rattle.comparison.proofs.Reported.{report_theorem}
+use Rattle.comparison.proofs.Reported.{report_theorem, rows_reported}
 use Rattle.comparison.proofs.ReportSteps.{told_in}
 use Rattle.comparison.proofs.report.report.Goals as goal
 
@@ -35,3 +35,11 @@ returns-clause-promise g c =
     let h = history (pairs l r) calls in
     subst (λ (x : Report). PromiseKept l r h.limit h.total before x) (sym (returns-clause-value g c))
     (report_theorem l r (g.met.L.Lts.lawful c.args.left) (g.met.R.Lts.lawful c.args.right) calls before)
+
+pub returns-clause-rows : goal.returns-clause-rows
+returns-clause-rows g c =
+    let l = g.L.Lts.meaning c.args.left in
+    let r = g.R.Lts.meaning c.args.right in
+    let calls = calls_of c.args.calls.now in
+    subst (λ (x : Report). RowsTold l r (history (pairs l r) calls).limit x) (sym (returns-clause-value g c))
+    (rows_reported l r (g.met.L.Lts.lawful c.args.left) (g.met.R.Lts.lawful c.args.right) calls c.args.buffer.now)
