@@ -4,6 +4,8 @@
 #[cfg(test)]
 mod accepted;
 #[cfg(test)]
+mod compared;
+#[cfg(test)]
 mod experiments;
 #[cfg(test)]
 mod files;
