@@ -6,6 +6,8 @@ mod accepted;
 #[cfg(test)]
 mod beside;
 #[cfg(test)]
+mod compared;
+#[cfg(test)]
 mod comparisons;
 #[cfg(test)]
 mod experiments;
