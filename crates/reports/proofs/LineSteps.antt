@@ -1,6 +1,5 @@
 -- What a comparison's calls tell, as the line that is printed of it. Assumes nothing.
-use Rattle.std.proofs.Common.{◌≡◌, ℕ, ◌≤◌, Bool, cond, List, length, take, Some, None, Option, Ok, Err, Result, leb, refl, ap, ◌∙◌, arith}
-use Rattle.std.proofs.lemmas.Bool.{le-leb}
+use Rattle.std.proofs.Common.{◌≡◌, ℕ, ◌≢◌, Bool, true, false, cond, List, length, take, Some, None, Option, Ok, Err, Result, leb, refl, ap, ◌∙◌}
 use Rattle.std.specs.Result.{result_unwrap_or}
 use Rattle.lts.specs.System.{System}
 use Rattle.cards.specs.declared.faults.SideFault.{SideFault}
@@ -15,12 +14,10 @@ use Rattle.comparison.specs.declared.refusal.Refusal.{Refusal}
 use Rattle.comparison.specs.declared.refusal.Refusal.TheVariants.{ShortBuffer}
 use Rattle.comparison.specs.Pairs.{PairSystem}
 use Rattle.comparison.specs.Exploration.{Answer, open', alike, full, apart, State, told_trace}
-use Rattle.comparison.specs.Explored.{state_in}
 use Rattle.comparison.specs.Calls.{Advance, Ask, Copy, Reply, copied, refused, unless_apart, reply, state_after, history_from}
 use Rattle.comparison.specs.Compared.{pairs_of, state_of, SameSystems, Opened}
 use Rattle.comparison.specs.Comparing.{pairs}
 use Rattle.comparison.specs.Replies.{answer_of, told_by, copy_reply}
-use Rattle.comparison.proofs.RowTraces.{beyond_few}
 use Rattle.reports.specs.Told.{Told, trace_at, told_in, compared, meant, two_meant, told_of}
 use Rattle.reports.specs.Printed.{answer_text, line, files_line}
 
@@ -28,27 +25,24 @@ use Rattle.reports.specs.Printed.{answer_text, line, files_line}
 abbrev pub copied_part : Result ℕ Refusal → List ℕ → List ℕ
 copied_part r buffer = take (result_unwrap_or r 0) buffer
 
--- no trace has more actions than a comparison can have rows
-pub trace_few : (c : Comparison) → length (told_trace (state_of c)) ≤ 2048
-unfolding state_in
-trace_few c = omega (arith, beyond_few c.exploration.rows c.exploration.handled c.exploration.action, c.exploration.few, c.exploration.bounded)
-
 -- what is told by asking and copying, as text
 module _ {X : Type 0} (S : PairSystem X Split) (st : State X Split) (n : ℕ) where
   by_refusal : Option Refusal → Reply Split
   by_refusal w = elim w [ None ↦ copied (length (told_trace st)) (told_trace st) | Some r ↦ refused r ]
 
-  trace_copied : (v : Split) (r : Result ℕ Refusal) (buffer : List ℕ) → st.answer ≡ apart v → length (told_trace st) ≤ n → copy_reply r buffer ≡ reply S (Copy n) st → copied_part r buffer ≡ told_trace st
+  trace_copied : (v : Split) (r : Result ℕ Refusal) (buffer : List ℕ) → st.answer ≡ apart v → r ≢ Err ShortBuffer → copy_reply r buffer ≡ reply S (Copy n) st → copied_part r buffer ≡ told_trace st
   unfolding by_refusal
-  trace_copied v r buffer a few e = by r (e ∙ ap by_refusal (ap (λ (o : Answer Split). unless_apart o (leb (length (told_trace st)) n)) a ∙ ap (λ (b : Bool). cond b None (Some ShortBuffer)) (le-leb (length (told_trace st)) n few)))
+  trace_copied v r buffer a room e = by (leb (length (told_trace st)) n) r room (e ∙ ap by_refusal (ap (λ (o : Answer Split). unless_apart o (leb (length (told_trace st)) n)) a))
     where
-      by : (r : Result ℕ Refusal) → copy_reply r buffer ≡ copied (length (told_trace st)) (told_trace st) → copied_part r buffer ≡ told_trace st
-      by (Ok m) q = cc
-      by (Err f) q = absurd cc
+      by : (b : Bool) (r : Result ℕ Refusal) → r ≢ Err ShortBuffer → copy_reply r buffer ≡ by_refusal (cond b None (Some ShortBuffer)) → copied_part r buffer ≡ told_trace st
+      by true (Ok m) room q = cc
+      by true (Err f) room q = absurd cc
+      by false (Ok m) room q = absurd cc
+      by false (Err f) room q = absurd (room cc)
 
-  pub text_told : (p : Progress) (r : Result ℕ Refusal) (buffer : List ℕ) → told_by p ≡ reply S Ask st → copy_reply r buffer ≡ reply S (Copy n) st → length (told_trace st) ≤ n
+  pub text_told : (p : Progress) (r : Result ℕ Refusal) (buffer : List ℕ) → told_by p ≡ reply S Ask st → copy_reply r buffer ≡ reply S (Copy n) st → r ≢ Err ShortBuffer
       → answer_text (answer_of p.answer) p.rows (copied_part r buffer) ≡ answer_text st.answer (length st.rows) (trace_at st.answer (told_trace st))
-  text_told p r buffer asked copy few = by st.answer refl
+  text_told p r buffer asked copy room = by st.answer refl
     where
       answer : answer_of p.answer ≡ st.answer
       answer = cc
@@ -60,7 +54,7 @@ module _ {X : Type 0} (S : PairSystem X Split) (st : State X Split) (n : ℕ) wh
       by open' e = rw (answer, e, rows) refl
       by alike e = rw (answer, e, rows) refl
       by full e = rw (answer, e, rows) refl
-      by (apart v) e = rw (answer, e, rows, trace_copied v r buffer e few copy) refl
+      by (apart v) e = rw (answer, e, rows, trace_copied v r buffer e room copy) refl
 
 -- what is told after opening and an advance by 2,048
 pub compared_by : (l r : System) (c d : Comparison) → Opened l r c → SameSystems c d → state_of d ≡ state_after (pairs_of c) (Advance 2048) (state_of c) → told_in (state_of d) ≡ compared 2048 l r
