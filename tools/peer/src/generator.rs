@@ -186,13 +186,17 @@ pub const KINDS: &[(&str, Maker)] = &[
     ("offers_of_many_sets", many_sets),
     ("calls_on_long_traces", calls_on_long_traces),
     ("tiny", tiny),
+    ("families", families),
+    ("alike_large", alike_large),
 ];
 
 /// The case of a seed and a number.
 pub fn case(seed: u64, number: u64) -> Case {
     let (kind, make) = KINDS[(number % KINDS.len() as u64) as usize];
-    let mut mixed = Random::new(seed.wrapping_mul(0x2545F4914F6CDD1D));
-    let mut random = Random::new(mixed.next() ^ number.wrapping_mul(0x9E3779B97F4A7C15));
+    // mixed twice, so that no two cases share a stretch of random numbers
+    let of_seed = Random::new(seed).next();
+    let of_case = Random::new(of_seed ^ number).next();
+    let mut random = Random::new(of_case);
     Case { kind, input: make(&mut random) }
 }
 
@@ -209,10 +213,25 @@ fn alike(random: &mut Random) -> Input {
     line(random, pair)
 }
 
+/// Bigger bases, with few choices, so that the pairs are not too many.
+fn alike_large(random: &mut Random) -> Input {
+    let states = random.between(20, 50);
+    let tries = random.between(states, 2 * states);
+    let actions = random.between(4, 32);
+    let silent = *random.pick(&[0, 3, 10]);
+    let base = shapes::random_system(random, states, tries, actions, silent);
+    let pair = (shapes::disguised(random, &base), shapes::disguised(random, &base));
+    line(random, pair)
+}
+
 fn nudged(random: &mut Random) -> Input {
-    let (left, right) = shapes::alike(random);
-    let right = shapes::nudged(random, &right);
-    line(random, (left, right))
+    let base = if random.percent(60) { shapes::small(random) } else { shapes::medium(random) };
+    let mut other = shapes::nudged(random, &base);
+    if random.percent(30) {
+        other = shapes::nudged(random, &other);
+    }
+    let pair = (shapes::disguised(random, &base), shapes::disguised(random, &other));
+    line(random, pair)
 }
 
 /// A pair with a small difference behind a line of steps.
@@ -346,16 +365,18 @@ fn registers(random: &mut Random) -> Input {
 
 /// Exactly as many pairs as there may be rows, one fewer or one more; or a split just before or behind that.
 fn at_the_limit(random: &mut Random) -> Input {
-    let (mut left, mut right) = match random.below(3) {
+    // so many starts more: each is one row more
+    let ((mut left, mut right), more) = match random.below(4) {
         0 => {
             let first = random.below(31) as u8;
             let base = shapes::register(11, first, first + 1);
-            (base.clone(), base)
+            ((base.clone(), base), random.below(2))
         }
-        1 => shapes::late_offer(random, &[2, 3, 11, 31]),
-        _ => shapes::late_settle(random, &[2, 3, 11, 31]),
+        1 => (shapes::late_offer(random, &[2, 3, 11, 31]), random.below(3)),
+        2 => (shapes::late_settle(random, &[8, 3, 5, 17]), random.between(4, 6)),
+        _ => (shapes::late_reach(random, &[8, 3, 5, 17]), random.between(5, 7)),
     };
-    for _ in 0..random.below(4) {
+    for _ in 0..more {
         let action = random.below(32) as u8;
         left = shapes::with_new_start(&left, action);
         right = shapes::with_new_start(&right, action);
@@ -413,6 +434,37 @@ fn many_sets(random: &mut Random) -> Input {
     }
     let right = shapes::renumbered(random, &right);
     line(random, (left, right))
+}
+
+/// After one action each side has a random family, beside a state that offers all that either family names.
+fn families(random: &mut Random) -> Input {
+    let actions: Vec<u8> = random.order(32).into_iter().take(random.between(2, 7)).map(|action| action as u8).collect();
+    let most = random.between(1, 6);
+    let any = |random: &mut Random| random.below(1 << actions.len());
+    let left: Vec<usize> = (0..random.between(1, most)).map(|_| any(random)).collect();
+    let right: Vec<usize> = match random.below(3) {
+        0 => (0..random.between(1, most)).map(|_| any(random)).collect(),
+        1 => left.iter().map(|&set| if random.percent(40) { set | any(random) } else { set }).collect(),
+        _ => left.iter().chain(&left).map(|&set| if random.percent(30) { set & any(random) } else { set | any(random) }).collect(),
+    };
+    let build = |sets: &[usize]| {
+        let mut system = System::new(3, 0);
+        let step = |place: usize| actions[place];
+        system.add(0, Some(9), 1);
+        for place in 0..actions.len() {
+            system.add(1, Some(step(place)), 2);
+        }
+        for set in sets {
+            let state = system.add_state().expect("there is room");
+            system.add(0, Some(9), state);
+            for place in (0..actions.len()).filter(|place| set >> place & 1 == 1) {
+                system.add(state, Some(step(place)), 2);
+            }
+        }
+        system
+    };
+    let pair = (build(&left), build(&right));
+    line(random, pair)
 }
 
 /// The words of a good card or test with at least one line, and not of the largest size.
@@ -582,12 +634,13 @@ fn random_words(random: &mut Random) -> Input {
 
 fn experiment_small(random: &mut Random) -> Input {
     let system = shapes::small(random);
-    Input::Experiment { card: file(&system), test: test_file(&shapes::test(random, 5)) }
+    let test = if random.percent(40) { shapes::test(random, 5) } else { shapes::test_for(random, &system, 6) };
+    Input::Experiment { card: file(&system), test: test_file(&test) }
 }
 
 fn experiment_medium(random: &mut Random) -> Input {
-    let system = if random.percent(50) { shapes::small(random) } else { shapes::medium(random) };
-    let test = shapes::test(random, 40);
+    let system = if random.percent(30) { shapes::small(random) } else { shapes::medium(random) };
+    let test = if random.percent(30) { shapes::test(random, 40) } else { shapes::test_for(random, &system, 40) };
     Input::Experiment { card: file(&system), test: test_file(&test) }
 }
 
@@ -782,6 +835,13 @@ fn list_of_calls(random: &mut Random) -> Vec<Call> {
     (0..random.below(14)).map(|_| call(random)).collect()
 }
 
+/// Every list ends by asking and copying.
+fn with_end(random: &mut Random, mut calls: Vec<Call>) -> Vec<Call> {
+    calls.push(Call::Ask);
+    calls.push(Call::Copy(*random.pick(&[0, 1, 2, 3, 5, 62, 63, 2048])));
+    calls
+}
+
 fn calls(random: &mut Random) -> Input {
     let (left, right) = match random.below(4) {
         0 => shapes::alike(random),
@@ -797,7 +857,8 @@ fn calls(random: &mut Random) -> Input {
             (base, other)
         }
     };
-    Input::Calls { left: file(&left), right: file(&right), calls: list_of_calls(random) }
+    let calls = list_of_calls(random);
+    Input::Calls { left: file(&left), right: file(&right), calls: with_end(random, calls) }
 }
 
 fn calls_on_long_traces(random: &mut Random) -> Input {
@@ -813,7 +874,7 @@ fn calls_on_long_traces(random: &mut Random) -> Input {
             calls.push(if random.percent(50) { Call::Test } else { Call::Copy(*random.pick(&[61, 62, 63, 64, 2048])) });
         }
     }
-    Input::Calls { left: file(&left), right: file(&right), calls }
+    Input::Calls { left: file(&left), right: file(&right), calls: with_end(random, calls) }
 }
 
 #[cfg(test)]
@@ -853,7 +914,7 @@ mod tests {
             assert_eq!(one, case(9, number));
             let answer = one.answer();
             match one.kind {
-                "alike" | "piles_alike" | "alike_without_traces_apart" => {
+                "alike" | "alike_large" | "piles_alike" | "alike_without_traces_apart" => {
                     assert!(answer.starts_with("ALIKE") || answer.starts_with("FULL"), "{one:?} {answer}");
                 }
                 "full_rings" => assert!(answer.starts_with("FULL rows 2048"), "{answer}"),

@@ -52,6 +52,26 @@ pub fn test(random: &mut Random, most: usize) -> Test {
     Test { system, passing }
 }
 
+/// A test that follows a system: nearly the same transitions, and some states that pass, mostly not the start.
+pub fn test_for(random: &mut Random, system: &System, most: usize) -> Test {
+    let mut followed = System::new(system.count.min(most), 0);
+    followed.start = system.start % followed.count;
+    let silent = *random.pick(&[0, 0, 30, 100]);
+    let kept = *random.pick(&[60, 80, 100]);
+    for (from, label, to) in system.transitions() {
+        if random.percent(if label.is_none() { silent } else { kept }) {
+            followed.add(from % followed.count, label, to % followed.count);
+        }
+    }
+    for _ in 0..random.below(3) {
+        followed = nudged(random, &followed);
+    }
+    let share = *random.pick(&[10, 30, 60]);
+    let start = followed.start;
+    let passing = (0..followed.count).map(|state| random.percent(if state == start { 3 } else { share })).collect();
+    Test { system: followed, passing }
+}
+
 /// How many lines a system would be written with.
 pub fn lines(system: &System) -> usize {
     system.transitions().len()
