@@ -52,9 +52,7 @@ impl Call {
             Call::Ask => Ok(text::reply(comparison.ask())),
             Call::Copy(length) => {
                 let mut buffer = vec![255; length];
-                comparison
-                    .copy(&mut buffer)
-                    .map(|told| format!("COPIED {told} buffer {}", text::numbers(&buffer)))
+                comparison.copy(&mut buffer).map(|told| format!("COPIED {told} buffer {}", text::numbers(&buffer)))
             }
             Call::Test => comparison.test().map(|test| {
                 let written = WrittenTest::of_test(&test).expect("a ladder has few lines");
@@ -78,11 +76,11 @@ mod tests {
     #[test]
     fn the_two_example_cards() {
         let morning = read_card(&[0x10030003, 0x20000001, 0x20000842, 0x20000882, 0x50000000]).unwrap();
-        let evening =
-            read_card(&[0x10040004, 0x20000001, 0x20000002, 0x20000843, 0x20001083, 0x50000000]).unwrap();
+        let evening = read_card(&[0x10040004, 0x20000001, 0x20000002, 0x20000843, 0x20001083, 0x50000000]).unwrap();
         let mut comparison = Comparison::open(&morning.system(), &evening.system());
-        let calls = ["ask", "copy 0", "test", "advance 0", "advance 1", "advance 1", "copy 0", "copy 3", "test", "begin 1"]
-            .map(|text| Call::read(text).unwrap());
+        let calls =
+            ["ask", "copy 0", "test", "advance 0", "advance 1", "advance 1", "copy 0", "copy 3", "test", "begin 1"]
+                .map(|text| Call::read(text).unwrap());
         assert!(calls.iter().all(|call| Call::read(&call.text()) == Ok(*call)));
         let apart = "APART rows 1 ground OFFER passer LEFT offer FFFFFFFD";
         // the ladder: 3 states; 0 by 0 to 1, silent 0 to 2, from 1 by all actions but 1 to 2

@@ -107,10 +107,9 @@ impl Case {
     pub fn as_card_files(&self) -> Option<(Vec<u8>, Vec<u8>)> {
         match &self.input {
             Input::Line { left, right } => Some((left.clone(), right.clone())),
-            Input::Piles { left, right } => Some((
-                file_if_small(&left.system().ok()?)?,
-                file_if_small(&right.system().ok()?)?,
-            )),
+            Input::Piles { left, right } => {
+                Some((file_if_small(&left.system().ok()?)?, file_if_small(&right.system().ok()?)?))
+            }
             _ => None,
         }
     }
@@ -143,7 +142,10 @@ fn test_file(test: &Test) -> Vec<u8> {
 }
 
 fn written_test(test: &Test) -> WrittenTest {
-    WrittenTest { card: card(&test.system), passing: (0..test.system.count).filter(|&state| test.passing[state]).collect() }
+    WrittenTest {
+        card: card(&test.system),
+        passing: (0..test.system.count).filter(|&state| test.passing[state]).collect(),
+    }
 }
 
 fn system_of(file: &[u8]) -> System {
@@ -194,8 +196,8 @@ pub const KINDS: &[(&str, Maker)] = &[
 pub fn case(seed: u64, number: u64) -> Case {
     let (kind, make) = KINDS[(number % KINDS.len() as u64) as usize];
     // mixed twice, so that no two cases share a stretch of random numbers
-    let of_seed = Random::new(seed).next();
-    let of_case = Random::new(of_seed ^ number).next();
+    let of_seed = Random::new(seed).number();
+    let of_case = Random::new(of_seed ^ number).number();
     let mut random = Random::new(of_case);
     Case { kind, input: make(&mut random) }
 }
@@ -320,8 +322,25 @@ fn divergent_alike(random: &mut Random) -> Input {
 
 /// Lengths of rings that have no factor in common.
 const RINGS: &[&[usize]] = &[
-    &[1], &[2], &[7], &[57], &[2, 3], &[3, 4], &[5, 7], &[7, 11], &[3, 4, 5], &[13, 12], &[16, 17], &[23, 29],
-    &[28, 29], &[7, 8, 9], &[2, 3, 5, 7], &[13, 12, 7], &[5, 7, 9, 4], &[12, 13, 11], &[11, 13, 14],
+    &[1],
+    &[2],
+    &[7],
+    &[57],
+    &[2, 3],
+    &[3, 4],
+    &[5, 7],
+    &[7, 11],
+    &[3, 4, 5],
+    &[13, 12],
+    &[16, 17],
+    &[23, 29],
+    &[28, 29],
+    &[7, 8, 9],
+    &[2, 3, 5, 7],
+    &[13, 12, 7],
+    &[5, 7, 9, 4],
+    &[12, 13, 11],
+    &[11, 13, 14],
 ];
 
 fn late(random: &mut Random, make: fn(&mut Random, &[usize]) -> (System, System)) -> Input {
@@ -445,7 +464,11 @@ fn families(random: &mut Random) -> Input {
     let right: Vec<usize> = match random.below(3) {
         0 => (0..random.between(1, most)).map(|_| any(random)).collect(),
         1 => left.iter().map(|&set| if random.percent(40) { set | any(random) } else { set }).collect(),
-        _ => left.iter().chain(&left).map(|&set| if random.percent(30) { set & any(random) } else { set | any(random) }).collect(),
+        _ => left
+            .iter()
+            .chain(&left)
+            .map(|&set| if random.percent(30) { set & any(random) } else { set | any(random) })
+            .collect(),
     };
     let build = |sets: &[usize]| {
         let mut system = System::new(3, 0);
@@ -492,7 +515,7 @@ pub fn damaged(random: &mut Random, words: &[u32], number: u8, is_test: bool) ->
     match number {
         1 => {
             words.truncate(random.below(words.len()));
-            tail = vec![random.next() as u8; random.below(4)];
+            tail = vec![random.number() as u8; random.below(4)];
         }
         2 => {
             let place = random.below(words.len());
@@ -547,7 +570,8 @@ pub fn damaged(random: &mut Random, words: &[u32], number: u8, is_test: bool) ->
         }
         5 => {
             let told = words[0] >> 16 & 0xFFF;
-            let wrong = if random.percent(50) { random.below(told as usize) } else { random.between(told as usize + 1, 256) };
+            let wrong =
+                if random.percent(50) { random.below(told as usize) } else { random.between(told as usize + 1, 256) };
             words[0] = (words[0] & !0x0FFF0000) | (wrong as u32) << 16;
         }
         _ => {
@@ -556,7 +580,7 @@ pub fn damaged(random: &mut Random, words: &[u32], number: u8, is_test: bool) ->
                 let added = *random.pick(&[0, 5 << 28, words[0], words[last - 1]]);
                 words.push(added);
             }
-            tail = vec![random.next() as u8; random.between(if more == 0 { 1 } else { 0 }, 3)];
+            tail = vec![random.number() as u8; random.between(if more == 0 { 1 } else { 0 }, 3)];
         }
     }
     let mut bytes = bytes_of(&words);
@@ -607,7 +631,7 @@ fn random_words(random: &mut Random) -> Input {
         for _ in 0..random.below(8) {
             let kind = random.pick(&[2, 2, 3, 4, 5, 1, 0, 9]) << 28;
             let mask = *random.pick(&[0x0001FFFF, 0x00001883, 0x00000801, 0x0FFFFFFF]);
-            words.push(kind | random.next() as u32 & mask);
+            words.push(kind | random.number() as u32 & mask);
         }
         if random.percent(70) {
             words.sort();
@@ -620,7 +644,7 @@ fn random_words(random: &mut Random) -> Input {
         }
         let mut bytes = bytes_of(&words);
         if random.percent(10) {
-            bytes.push(random.next() as u8);
+            bytes.push(random.number() as u8);
         }
         bytes
     };
@@ -670,8 +694,20 @@ fn experiment_ladder(random: &mut Random) -> Input {
 /// Numbers of states at which a system and a test just have, or just have not, room for their pairs.
 fn experiment_sizes(random: &mut Random) -> Input {
     let (states, places) = *random.pick(&[
-        (64, 32), (64, 33), (32, 64), (33, 63), (33, 62), (63, 33), (62, 33), (64, 64), (45, 45), (46, 45), (46, 44), (41, 50),
-        (1, 64), (64, 1),
+        (64, 32),
+        (64, 33),
+        (32, 64),
+        (33, 63),
+        (33, 62),
+        (63, 33),
+        (62, 33),
+        (64, 64),
+        (45, 45),
+        (46, 45),
+        (46, 44),
+        (41, 50),
+        (1, 64),
+        (64, 1),
     ]);
     let ring = |random: &mut Random, count: usize| {
         let mut system = System::new(count, random.below(count));
@@ -753,7 +789,7 @@ fn led(random: &mut Random) -> Input {
 
 /// A pile of so many layers at most, over counters and small cards.
 fn pile(random: &mut Random, depth: usize) -> Pile {
-    let set = |random: &mut Random| random.next() as u32 & random.next() as u32 & 0x8000000F;
+    let set = |random: &mut Random| random.number() as u32 & random.number() as u32 & 0x8000000F;
     if depth == 0 || random.percent(15) {
         if random.percent(40) {
             return Pile::Card(card(&shapes::small(random)));
@@ -770,13 +806,13 @@ fn pile(random: &mut Random, depth: usize) -> Pile {
 
 fn random_piles(random: &mut Random) -> Input {
     let left = pile(random, 3);
-    let right = if random.percent(50) { pile(random, 3) } else { left.clone().hidden(random.next() as u32 & 15) };
+    let right = if random.percent(50) { pile(random, 3) } else { left.clone().hidden(random.number() as u32 & 15) };
     Input::Piles { left, right }
 }
 
 /// Two piles that are alike by a law of layers.
 fn alike_piles(random: &mut Random) -> Input {
-    let set = random.next() as u32 & 15;
+    let set = random.number() as u32 & 15;
     let (left, right) = match random.below(5) {
         0 => {
             // counters one behind another hold as many as one of them all
@@ -790,7 +826,7 @@ fn alike_piles(random: &mut Random) -> Input {
         }
         2 => {
             let one = pile(random, 2);
-            let other = random.next() as u32 & 15;
+            let other = random.number() as u32 & 15;
             (one.clone().hidden(set).hidden(other), one.hidden(set | other))
         }
         3 => {

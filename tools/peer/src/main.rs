@@ -187,8 +187,7 @@ fn summary(seed: u64, count: u64) -> Outcome {
         let class = if one.sort() == "calls" { "replies".to_string() } else { class_of(&answer) };
         *seen.entry((one.kind, class)).or_default() += 1;
     }
-    let mut told: String =
-        seen.iter().map(|((kind, class), times)| format!("{times:7} {kind}: {class}\n")).collect();
+    let mut told: String = seen.iter().map(|((kind, class), times)| format!("{times:7} {kind}: {class}\n")).collect();
     told += &format!("longest track: {longest} actions\n");
     Ok(told)
 }

@@ -74,11 +74,9 @@ fn read_from<'a>(tokens: &mut impl Iterator<Item = &'a str>) -> Result<Pile, Str
     let decimal = |text: &str| text.parse().map_err(|_| format!("{text} is no number"));
     let sixteen = |text: &str| u32::from_str_radix(text, 16).map_err(|_| format!("{text} is no word"));
     match token()? {
-        "counter" => Ok(Pile::Counter {
-            capacity: decimal(token()?)?,
-            input: decimal(token()?)?,
-            output: decimal(token()?)?,
-        }),
+        "counter" => {
+            Ok(Pile::Counter { capacity: decimal(token()?)?, input: decimal(token()?)?, output: decimal(token()?)? })
+        }
         "hide" => {
             let actions = sixteen(token()?)?;
             Ok(read_from(tokens)?.hidden(actions))

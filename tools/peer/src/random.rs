@@ -9,7 +9,7 @@ impl Random {
         Random { state: seed }
     }
 
-    pub fn next(&mut self) -> u64 {
+    pub fn number(&mut self) -> u64 {
         self.state = self.state.wrapping_add(0x9E3779B97F4A7C15);
         let mut mixed = self.state;
         mixed = (mixed ^ mixed >> 30).wrapping_mul(0xBF58476D1CE4E5B9);
@@ -19,7 +19,7 @@ impl Random {
 
     /// A number below a bound, which is not 0.
     pub fn below(&mut self, bound: usize) -> usize {
-        (self.next() % bound as u64) as usize
+        (self.number() % bound as u64) as usize
     }
 
     /// A number from the first to the last one.
@@ -53,9 +53,9 @@ mod tests {
     #[test]
     fn the_same_seed_gives_the_same_numbers() {
         let (mut one, mut two, mut other) = (Random::new(1), Random::new(1), Random::new(2));
-        let numbers: Vec<u64> = (0..9).map(|_| one.next()).collect();
-        assert_eq!(numbers, (0..9).map(|_| two.next()).collect::<Vec<_>>());
-        assert_ne!(numbers, (0..9).map(|_| other.next()).collect::<Vec<_>>());
+        let numbers: Vec<u64> = (0..9).map(|_| one.number()).collect();
+        assert_eq!(numbers, (0..9).map(|_| two.number()).collect::<Vec<_>>());
+        assert_ne!(numbers, (0..9).map(|_| other.number()).collect::<Vec<_>>());
         assert!((0..99).all(|_| (3..=5).contains(&one.between(3, 5))));
         let mut order = one.order(50);
         assert_ne!(order, (0..50).collect::<Vec<_>>());

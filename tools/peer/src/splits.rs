@@ -40,11 +40,7 @@ fn alone(left: bool, right: bool) -> Option<Side> {
 
 /// The lowest set of a family that contains no set of the other.
 fn lowest_uncovered(family: &[u32], other: &[u32]) -> Option<u32> {
-    family
-        .iter()
-        .copied()
-        .filter(|set| !other.iter().any(|inner| inner & set == *inner))
-        .min()
+    family.iter().copied().filter(|set| !other.iter().any(|inner| inner & set == *inner)).min()
 }
 
 /// What two minimal families show.

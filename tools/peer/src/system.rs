@@ -24,12 +24,7 @@ impl System {
     /// A system with states and a start and no transition.
     pub fn new(count: usize, start: usize) -> System {
         assert!(start < count && count <= MOST_STATES);
-        System {
-            count,
-            start,
-            visible: vec![Vec::new(); count],
-            silent: vec![Vec::new(); count],
-        }
+        System { count, start, visible: vec![Vec::new(); count], silent: vec![Vec::new(); count] }
     }
 
     /// The blank system: one state, no transition.
@@ -89,9 +84,7 @@ impl System {
 
     /// The offer of a state: the set of the actions that lead somewhere from it.
     pub fn offer(&self, state: usize) -> u32 {
-        self.visible[state]
-            .iter()
-            .fold(0, |set, &(action, _)| set | 1 << action)
+        self.visible[state].iter().fold(0, |set, &(action, _)| set | 1 << action)
     }
 
     /// Whether no silent transition leaves a state.

@@ -204,7 +204,8 @@ mod tests {
 
     #[test]
     fn shows() {
-        let text = "states 3 start 0 lines 3\n0-0-1\n1-1-2\n1-2-2\nwords 10030003 20000001 20000842 20000882 50000000\n";
+        let text =
+            "states 3 start 0 lines 3\n0-0-1\n1-1-2\n1-2-2\nwords 10030003 20000001 20000842 20000882 50000000\n";
         assert_eq!(shown(&morning()), text);
         assert_eq!(shown(&damaged()), "FAULT 3 at 2\n");
         let text = "trace 0\nstates 1 2\nconvergent yes\naccepts 1\naccepts 2\n";

@@ -127,12 +127,10 @@ fn read(words: &[u32], is_test: bool) -> Result<WrittenTest, Fault> {
 /// The same for a file of bytes: each word is four bytes, the low one first.
 fn read_file(bytes: &[u8], is_test: bool) -> Result<WrittenTest, Fault> {
     let seen = &bytes[..bytes.len().min(MOST_BYTES)];
-    let words: Vec<u32> = seen
-        .chunks_exact(4)
-        .map(|four| u32::from_le_bytes([four[0], four[1], four[2], four[3]]))
-        .collect();
+    let words: Vec<u32> =
+        seen.chunks_exact(4).map(|four| u32::from_le_bytes([four[0], four[1], four[2], four[3]])).collect();
     let result = read(&words, is_test)?;
-    if seen.len() % 4 > 0 {
+    if seen.len() > words.len() * 4 {
         return Err(Fault { number: 6, place: words.len() });
     }
     Ok(result)
@@ -195,11 +193,8 @@ impl Card {
 
     /// A system as a written card, or none if it has too many lines.
     pub fn of_system(system: &System) -> Option<Card> {
-        let mut lines: Vec<Line> = system
-            .transitions()
-            .into_iter()
-            .map(|(from, label, to)| Line { from, label, to })
-            .collect();
+        let mut lines: Vec<Line> =
+            system.transitions().into_iter().map(|(from, label, to)| Line { from, label, to }).collect();
         lines.sort_by_key(Line::word);
         (lines.len() <= MOST_LINES).then_some(Card { states: system.count, start: system.start, lines })
     }
