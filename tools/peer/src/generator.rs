@@ -190,6 +190,10 @@ pub const KINDS: &[(&str, Maker)] = &[
     ("tiny", tiny),
     ("families", families),
     ("alike_large", alike_large),
+    ("silent_chains", silent_chains),
+    ("experiment_odometer", experiment_odometer),
+    ("experiment_chains", experiment_chains),
+    ("too_many_lines", too_many_lines),
 ];
 
 /// The case of a seed and a number.
@@ -490,10 +494,76 @@ fn families(random: &mut Random) -> Input {
     line(random, pair)
 }
 
-/// The words of a good card or test with at least one line, and not of the largest size.
+fn silent_chains(random: &mut Random) -> Input {
+    let left = shapes::silent_chain(random);
+    let mut right = left.clone();
+    if random.percent(50) {
+        right = shapes::nudged(random, &right);
+    }
+    if random.percent(30) {
+        // the last state of the chain gets or loses something
+        let state = random.below(right.count);
+        right.add(state, None, state);
+    }
+    right = if random.percent(50) { shapes::renumbered(random, &right) } else { shapes::disguised(random, &right) };
+    line(random, (left, right))
+}
+
+fn experiment_odometer(random: &mut Random) -> Input {
+    let (states, places) = *random.pick(&[(62, 33), (62, 33), (64, 32), (32, 64), (45, 45), (12, 9), (3, 2)]);
+    let with_slip = random.percent(50);
+    let (system, test) = shapes::odometer(random, states, places, with_slip);
+    let system = shapes::renumbered(random, &system);
+    Input::Experiment { card: file(&system), test: test_file(&test) }
+}
+
+/// A line of silent steps beside a test that is a line, too.
+fn experiment_chains(random: &mut Random) -> Input {
+    let system = shapes::silent_chain(random);
+    let places = random.between(2, 32);
+    let mut counter = System::new(places, 0);
+    for place in 0..places - 1 {
+        let label = if random.percent(85) { None } else { Some(random.below(3) as u8) };
+        counter.add(place, label, place + 1);
+    }
+    for _ in 0..random.below(3) {
+        let from = random.below(places);
+        counter.add(from, Some(random.below(3) as u8), random.between(from, places - 1));
+    }
+    let mut passing = vec![false; places];
+    passing[places - 1] = random.percent(90);
+    passing[random.below(places)] |= random.percent(20);
+    Input::Experiment { card: file(&system), test: test_file(&Test { system: counter, passing }) }
+}
+
+/// The most lines that are allowed, and one more or many: the file may be longer than what is looked at.
+fn too_many_lines(random: &mut Random) -> Input {
+    let wanted = *random.pick(&[256, 257, 258, 321, 322, 400]);
+    let mut lines = std::collections::BTreeSet::new();
+    while lines.len() < wanted {
+        let label = (!random.percent(40)).then(|| random.below(32) as u8);
+        lines.insert(Line { from: random.below(64), label, to: random.below(64) }.word());
+    }
+    let mut words = vec![1 << 28 | 256 << 16 | (random.below(64) << 8) as u32 | 64];
+    words.extend(lines);
+    words.push(5 << 28);
+    let bad = bytes_of(&words);
+    let good = bytes_of(&good_words(random, false));
+    match random.below(3) {
+        0 => Input::Line { left: bad, right: good },
+        1 => Input::Line { left: good, right: bad },
+        _ => Input::Experiment { card: good, test: bad },
+    }
+}
+
+/// The words of a good card or test with at least one line and fewer than the most.
 fn good_words(random: &mut Random, with_passing: bool) -> Vec<u32> {
     loop {
-        let system = if random.percent(50) { shapes::small(random) } else { shapes::medium(random) };
+        let system = match random.below(8) {
+            0 => shapes::largest(random),
+            1..=3 => shapes::medium(random),
+            _ => shapes::small(random),
+        };
         if shapes::lines(&system) == 0 || shapes::lines(&system) == MOST_LINES {
             continue;
         }
@@ -541,6 +611,7 @@ pub fn damaged(random: &mut Random, words: &[u32], number: u8, is_test: bool) ->
         }
         3 => {
             let above = random.between(states as usize, 63.max(states as usize)) as u32;
+            // with 64 states no line and no passing state can be out of range
             let numbered: Vec<usize> = (1..last).filter(|_| states < 64).collect();
             if numbered.is_empty() || random.percent(40) {
                 let lines = words[0] & 0x0FFF0000;

@@ -381,6 +381,53 @@ pub fn with_new_start(system: &System, action: u8) -> System {
     result
 }
 
+/// A line of silent steps over all states in a random order, sometimes with one more that makes a ring of its end;
+/// beside it a few transitions with an action.
+pub fn silent_chain(random: &mut Random) -> System {
+    let states = if random.percent(40) { MOST_STATES } else { random.between(2, MOST_STATES) };
+    let order = random.order(states);
+    let mut system = System::new(states, if random.percent(70) { order[0] } else { order[states / 2] });
+    for two in order.windows(2) {
+        if random.percent(99) {
+            system.add(two[0], None, two[1]);
+        }
+    }
+    if random.percent(50) {
+        let last = order[states - 1];
+        system.add(last, None, if random.percent(50) { last } else { order[random.below(states)] });
+    }
+    for _ in 0..random.below(9) {
+        system.add(random.below(states), Some(random.below(3) as u8), random.below(states));
+    }
+    system.add(order[states - 1], Some(random.below(3) as u8), order[random.below(states)]);
+    system
+}
+
+/// A system and a test that together count up: the system goes up by an action at which the test stays;
+/// at its top another action takes it back and the test one state on. The last state of the test passes.
+/// The run has as many steps as there are pairs before it; a slip makes it endless or stuck.
+pub fn odometer(random: &mut Random, states: usize, places: usize, with_slip: bool) -> (System, Test) {
+    let (up, carry) = two_actions(random);
+    let mut system = System::new(states, 0);
+    for state in 0..states - 1 {
+        system.add(state, Some(up), state + 1);
+    }
+    system.add(states - 1, Some(carry), 0);
+    let slip = random.below(places - 1);
+    let mut counter = System::new(places, 0);
+    for place in 0..places - 1 {
+        if !with_slip || place != slip || random.percent(70) {
+            counter.add(place, Some(up), place);
+        }
+        counter.add(place, Some(carry), place + 1);
+    }
+    if with_slip && random.percent(70) {
+        counter.add(slip, Some(carry), random.below(slip + 1));
+    }
+    let passing = (0..places).map(|place| place == places - 1).collect();
+    (system, Test { system: counter, passing })
+}
+
 /// A big random system of 64 states with as many lines as are allowed, or some fewer.
 pub fn largest(random: &mut Random) -> System {
     let actions = random.between(1, 32);
@@ -461,6 +508,22 @@ mod tests {
         assert_eq!(compared(&more, &more), (Answer::Full, 2048, 0));
         let ten = with_new_start(&register(10, 4, 9), 4);
         assert_eq!(compared(&ten, &ten), (Answer::Alike, 1025, 0));
+    }
+
+    #[test]
+    fn an_odometer_runs_through_all_pairs() {
+        let mut random = Random::new(3);
+        let verdict = |states, places, with_slip, random: &mut Random| {
+            let (system, test) = odometer(random, states, places, with_slip);
+            let verdict = crate::experiments::experiment(&system, &test).unwrap();
+            (verdict.may, verdict.must)
+        };
+        assert_eq!(verdict(3, 2, false, &mut random), (true, true));
+        assert_eq!(verdict(62, 33, false, &mut random), (true, true));
+        let slips: Vec<_> = (0..40).map(|_| verdict(62, 33, true, &mut random)).collect();
+        for wanted in [(true, true), (true, false), (false, false)] {
+            assert!(slips.contains(&wanted), "{slips:?}");
+        }
     }
 
     #[test]
