@@ -18,7 +18,8 @@ use Rattle.comparison.specs.Calls.{Advance, Ask, Copy, Reply, copied, refused, u
 use Rattle.comparison.specs.Compared.{pairs_of, state_of, SameSystems, Opened}
 use Rattle.comparison.specs.Comparing.{pairs}
 use Rattle.comparison.specs.Replies.{answer_of, told_by, copy_reply}
-use Rattle.reports.specs.Told.{Told, trace_at, told_in, compared, meant, two_meant, told_of}
+use Rattle.printing.specs.Experiments.{card_of}
+use Rattle.reports.specs.Told.{Told, trace_at, told_in, compared, two_meant, told_of}
 use Rattle.reports.specs.Printed.{answer_text, line, files_line}
 
 -- what stands at the head of a buffer after a copy: the trace that was written, and nothing where it was refused
@@ -70,5 +71,5 @@ files_told left right lo ro l r t = by (read_sides left right)
   where
     by : (o : Result Sides SideFault) → Ok tt ≡ read_told o → contents l ≡ left_after lo o → contents r ≡ right_after ro o → t ≡ compared 2048 (system l) (system r)
         → line (Ok t) ≡ line (told_of 2048 (two_meant o))
-    by (Ok s) k p q e = ap (λ (x : Told). line (Ok x)) (e ∙ (λ i. compared 2048 (meant (p i)) (meant (q i))))
+    by (Ok s) k p q e = ap (λ (x : Told). line (Ok x)) (e ∙ (λ i. compared 2048 (card_of (p i)) (card_of (q i))))
     by (Err f) k p q e = absurd cc

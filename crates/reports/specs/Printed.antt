@@ -12,6 +12,7 @@ use Rattle.testing.specs.declared.ground.Side.TheVariants.{Left, Right}
 use Rattle.testing.specs.declared.ground.Ground.{Ground}
 use Rattle.testing.specs.declared.ground.Ground.TheVariants.{Reach, Settle, Offer}
 use Rattle.testing.specs.declared.ground.Split.{Split}
+use Rattle.testing.specs.Filling.{offer_of}
 use Rattle.comparison.specs.Exploration.{Answer, open', alike, full, apart}
 use Rattle.reports.specs.Told.{Told, files, told_of}
 
@@ -19,16 +20,11 @@ abbrev pub side_text : Side → List ℕ
 side_text Left = codes "LEFT"
 side_text Right = codes "RIGHT"
 
--- a ground and its offer, all 0 where it has none
+-- a ground by its name; its offer is all 0 where it has none
 abbrev pub name_of : Ground → List ℕ
 name_of Reach = codes "REACH"
 name_of Settle = codes "SETTLE"
 name_of (Offer O) = codes "OFFER"
-
-abbrev pub offer_of : Ground → ℕ
-offer_of Reach = 0
-offer_of Settle = 0
-offer_of (Offer O) = O.bits
 
 abbrev pub rows_text : ℕ → List ℕ
 rows_text n = codes " rows " ++ decimal n

@@ -3,9 +3,8 @@ use Rattle.std.specs.Prelude.{ℕ, List, [], ◌∷◌, length, Ok, Err, Result}
 use Rattle.lts.specs.System.{System}
 use Rattle.cards.specs.declared.faults.SideFault.{SideFault}
 use Rattle.cards.specs.Bytes.{Sides, read_sides}
-use Rattle.cards.specs.Contents.{Contents}
-use Rattle.cards.specs.Lines.{system_of}
 use Rattle.testing.specs.declared.ground.Split.{Split}
+use Rattle.printing.specs.Experiments.{card_of}
 use Rattle.comparison.specs.Exploration.{Answer, open', alike, full, apart, State, told_trace}
 use Rattle.comparison.specs.Calls.{Begin, Advance, history}
 use Rattle.comparison.specs.Comparing.{Pair, pairs}
@@ -33,11 +32,8 @@ pub record Two : Type 0 where
   pub left : System
   pub right : System
 
-abbrev pub meant : Contents → System
-meant c = system_of c.states c.start c.lines
-
 abbrev pub two_meant : Result Sides SideFault → Result Two SideFault
-two_meant (Ok s) = Ok (record { left = meant s.left; right = meant s.right })
+two_meant (Ok s) = Ok (record { left = card_of s.left; right = card_of s.right })
 two_meant (Err e) = Err e
 
 -- the systems of two card files, given by their bytes, or the first fault

@@ -3,8 +3,9 @@ ghost use Rattle.std.specs.Prelude.{◌≡◌, ◌++◌, IfOk, Ok, Err, Some, co
 ghost use Rattle.comparison.specs.Replies.{answer_of};
 ghost use Rattle.comparison.specs.Compared.{state_of};
 ghost use Rattle.printing.specs.Shown.{newline};
+ghost use Rattle.testing.specs.Filling.{offer_of};
 ghost use Rattle.reports.specs.Told.{told_in};
-ghost use Rattle.reports.specs.Printed.{side_text, name_of, offer_of, answer_text, place_text, line, files_line};
+ghost use Rattle.reports.specs.Printed.{side_text, name_of, answer_text, place_text, line, files_line};
 
 use cards::faults::{SideFault, WordFault};
 use cards::sides::read_sides;

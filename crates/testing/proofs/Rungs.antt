@@ -1,12 +1,12 @@
 -- What a distinguishing test answers. Assumes nothing.
-use Rattle.std.proofs.Common.{◌≡◌, ◌≢◌, ℕ, zero, suc, ◌^◌, ◌<◌, ◌≤◌, true, false, cond, eqb, List, [], ◌∷◌, length, get_or, refl, arith, suc-le-suc}
-use Rattle.std.proofs.lemmas.Bool.{false≢true}
+use Rattle.std.proofs.Common.{◌≡◌, ◌≢◌, ℕ, zero, suc, ◌^◌, ◌<◌, ◌≤◌, true, false, cond, eqb, List, [], ◌∷◌, length, get_or, refl, arith}
 use Rattle.std.proofs.lemmas.Bool.Decides.{nat_tests}
 use Rattle.lts.specs.Sets.{has}
 use Rattle.testing.specs.declared.ground.Ground.{Ground}
 use Rattle.testing.specs.declared.ground.Ground.TheVariants.{Reach, Settle, Offer}
 use Rattle.testing.specs.Distinguish.{leads, ladder, test_of}
-use Rattle.testing.specs.Filling.{last_actions, leads_on, silent}
+use Rattle.testing.specs.TestsLawful.{leads_below}
+use Rattle.testing.specs.Filling.{offer_of, leads_on, silent}
 
 -- the action at a place, if there is one
 leads_at : (s : List ℕ) (i a : ℕ) → i < length s → leads s i a ≡ eqb (get_or s i 0) a
@@ -15,17 +15,11 @@ leads_at [] i a b = absurd (omega arith)
 leads_at (x ∷ s) zero a b = refl
 leads_at (x ∷ s) (suc i) a b = leads_at s i a (omega arith)
 
-leads_below : (s : List ℕ) (i a : ℕ) → leads s i a ≡ true → i < length s
-unfolding leads
-leads_below [] i a e = absurd (false≢true e)
-leads_below (x ∷ s) zero a e = omega arith
-leads_below (x ∷ s) (suc i) a e = suc-le-suc (leads_below s i a e)
-
 -- Before the end of the trace the action at the place of the state leads on, at its end the last actions do, and beyond it none.
 pub leads_some : (g : Ground) (s : List ℕ) (i a x : ℕ) → i < length s → x ≡ get_or s i 0 → a < 32 → leads_on g s i a ≡ eqb x a
 leads_some g s i a x b e c = let l = leads_at s i a b in rw e (grind (arith, nat_tests))
 
-pub leads_end : (g : Ground) (s : List ℕ) (i a O : ℕ) → i ≡ length s → O ≡ last_actions g → a < 32 → leads_on g s i a ≡ has a O
+pub leads_end : (g : Ground) (s : List ℕ) (i a O : ℕ) → i ≡ length s → O ≡ offer_of g → a < 32 → leads_on g s i a ≡ has a O
 leads_end g s i a O e o b = let l = leads_below s i a in rw o (grind (arith, nat_tests))
 
 pub leads_beyond : (g : Ground) (s : List ℕ) (i a : ℕ) → length s ≤ i → i ≢ length s → leads_on g s i a ≡ false

@@ -14,8 +14,8 @@ abbrev pub held : DistinguishingTest → Ground × List ℕ
 held t = (t.ground, t.trace.items)
 
 -- the test that it means
-abbrev pub tester : DistinguishingTest → Tester
-tester t = test_of t.ground t.trace.items
+abbrev pub test_meant : DistinguishingTest → Tester
+test_meant t = test_of t.ground t.trace.items
 
 -- The number of a refusal: a trace that does not fit is refused with 12.
 abbrev pub number : TraceFault → ℕ
@@ -30,14 +30,14 @@ abbrev pub after : Ground × List ℕ → Ground → List ℕ → Ground × List
 after old g s = cond (nat_le (length s) 62) (g, s) old
 
 -- the actions that lead from the last state but one to the last
-abbrev pub last_actions : Ground → ℕ
-last_actions Reach = 0
-last_actions Settle = 0
-last_actions (Offer O) = O.bits
+abbrev pub offer_of : Ground → ℕ
+offer_of Reach = 0
+offer_of Settle = 0
+offer_of (Offer O) = O.bits
 
 -- the action a leads from state i of the test to the next
 abbrev pub leads_on : Ground → List ℕ → ℕ → ℕ → Bool
-leads_on g s i a = nat_lt a 32 && (leads s i a || (i == length s && has a (last_actions g)))
+leads_on g s i a = nat_lt a 32 && (leads s i a || (i == length s && has a (offer_of g)))
 
 -- a silent transition leads from state i of the test of a trace of n actions to the last
 abbrev pub silent : Ground → ℕ → ℕ → Bool

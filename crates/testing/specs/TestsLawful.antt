@@ -1,21 +1,14 @@
 -- Every distinguishing test is a lawful test. Assumes nothing.
 use Rattle.std.specs.Prelude.{◌≡◌, ℕ, zero, suc, ◌+◌, ◌^◌, ◌<◌, ◌≤◌, Bool, true, false, cond, ◌&&◌, ◌||◌, List, [], ◌∷◌, length, ◌==◌, nat_le, nat_lt, refl}
-use Rattle.std.proofs.Common.{◌⊎◌, inl, inr, arith, suc-le-suc, T, leb-true, ltb-true}
-use Rattle.std.proofs.lemmas.Bool.{false≢true, eqb-true}
+use Rattle.std.proofs.Common.{◌⊎◌, inl, inr, arith, suc-le-suc, leb-true, ltb-true}
+use Rattle.std.proofs.lemmas.Bool.{and_parts, false≢true, eqb-true}
 use Rattle.std.proofs.lemmas.Nat.{pow_pos, pow_below}
 use Rattle.lts.specs.Sets.{has}
 use Rattle.lts.specs.System.{LawfulTester}
+use Rattle.lts.proofs.Membership.{true_T}
 use Rattle.testing.specs.declared.ground.Ground.{Ground}
 use Rattle.testing.specs.declared.ground.Ground.TheVariants.{Reach, Settle, Offer}
 use Rattle.testing.specs.Distinguish.{leads, ladder, test_of}
-
-both : (a b : Bool) → (a && b) ≡ true → (a ≡ true) × (b ≡ true)
-both true b e = (refl, e)
-both false b e = absurd (false≢true e)
-
-holds : (b : Bool) → T b → b ≡ true
-holds true t = refl
-holds false t = absurd t
 
 either : (a b : Bool) → (a || b) ≡ true → (a ≡ true) ⊎ (b ≡ true)
 either true b e = inl refl
@@ -30,7 +23,7 @@ only_none : (b : Bool) (k : ℕ) → ¬ (b ≡ true) → cond b (2 ^ k) 0 ≡ 0
 only_none true k f = absurd (f refl)
 only_none false k f = refl
 
-leads_below : (s : List ℕ) (i a : ℕ) → leads s i a ≡ true → i < length s
+pub leads_below : (s : List ℕ) (i a : ℕ) → leads s i a ≡ true → i < length s
 unfolding leads
 leads_below [] i a e = absurd (false≢true e)
 leads_below (b ∷ s) zero a e = omega arith
@@ -46,16 +39,16 @@ module _ (s : List ℕ) (f : ℕ → Bool) (O : ℕ) where
 
   seen_within : (i a : ℕ) → seen i a ≡ true → (a < 32) × (i ≤ length s)
   seen_within i a e =
-      let b = both _ _ e in (
+      let b = and_parts _ _ e in (
         ltb-true a 32 b.0,
         elim (either (leads s i a) _ b.1) [
           | inl l ↦ (let c = leads_below s i a l in omega arith)
-          | inr o ↦ (let c = eqb-true i (length s) (both _ _ o).0 in omega arith)
+          | inr o ↦ (let c = eqb-true i (length s) (and_parts _ _ o).0 in omega arith)
         ],
       )
 
   unseen_within : (i : ℕ) → unseen i ≡ true → i ≤ length s
-  unseen_within i e = leb-true i (length s) (both _ _ e).0
+  unseen_within i e = leb-true i (length s) (and_parts _ _ e).0
 
   ladder_lawful : LawfulTester (ladder s f O)
   unfolding ladder
@@ -69,7 +62,7 @@ module _ (s : List ℕ) (f : ℕ → Bool) (O : ℕ) where
       hidden_outside = λ i o. only_none (unseen i) (suc (length s)) (λ e. let b = unseen_within i e in omega arith);
       no_action = λ i a o. only_none (seen i a) (suc i) (λ e. let b = seen_within i a e in omega arith);
     };
-    passing = λ x t. let e = eqb-true x (suc (length s)) (holds (x == suc (length s)) t) in omega arith;
+    passing = λ x t. let e = eqb-true x (suc (length s)) (true_T (x == suc (length s)) t) in omega arith;
   }
 
 pub test_lawful : (g : Ground) (s : List ℕ) → LawfulTester (test_of g s)

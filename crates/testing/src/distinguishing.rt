@@ -44,7 +44,7 @@ impl DistinguishingTest {
     ghost use Rattle.testing.specs.declared.ground.Ground.TheVariants.{Settle};
     ghost use Rattle.testing.specs.Distinguish.{test_of, Passes};
     ghost use Rattle.testing.specs.Experiments.{TellsPassing};
-    ghost use Rattle.testing.specs.Filling.{held, tester, filled, after, last_actions, leads_on, silent};
+    ghost use Rattle.testing.specs.Filling.{held, test_meant, filled, after, offer_of, leads_on, silent};
 
     // That of Settle on the empty trace.
     pub fn new() -> DistinguishingTest
@@ -60,7 +60,7 @@ impl DistinguishingTest {
     pub fn fill(&mut self, ground: Ground, trace: &[u8]) -> Result<(), TraceFault>
         ensures told { result ≡ filled trace.now }
         ensures after { held self.new ≡ after (held self.old) ground trace.now }
-        ensures test { OnOk result (tester self.new ≡ test_of ground trace.now) }
+        ensures test { OnOk result (test_meant self.new ≡ test_of ground trace.now) }
     {
         let Ok(trace) = ArrayVec::try_from(trace) else {
             return Err(TraceFault::TooLong);
@@ -72,8 +72,8 @@ impl DistinguishingTest {
     // Whether the system passes it: by may for Reach, by must for Settle and Offer. A long trace beside a system of many states may have too many
     // joint pairs.
     pub fn is_passed_by<S: Lts>(&self, system: &S, heap: Global) -> Result<bool, ExperimentFault>
-        ensures value { TellsPassing self.now.ground (S.meaning system.now) (tester self.now) result }
-        ensures law { IfOk result (λ b. b ≡ true ↔ Passes self.now.ground (S.meaning system.now) (tester self.now)) }
+        ensures value { TellsPassing self.now.ground (S.meaning system.now) (test_meant self.now) result }
+        ensures law { IfOk result (λ b. b ≡ true ↔ Passes self.now.ground (S.meaning system.now) (test_meant self.now)) }
     {
         let outcome = experiment(system, self, heap)?;
         if self.ground.is_must() {
@@ -85,7 +85,7 @@ impl DistinguishingTest {
 
     // The actions that lead from the last state but one to the last.
     fn last_actions(&self) -> ActionSet
-        ensures { result.bits ≡ last_actions self.now.ground }
+        ensures { result.bits ≡ offer_of self.now.ground }
     {
         match self.ground {
             Ground::Reach | Ground::Settle => ActionSet::empty(),
@@ -120,10 +120,10 @@ impl DistinguishingTest {
 }
 
 impl Lts for DistinguishingTest {
-    ghost use Rattle.testing.specs.Filling.{tester};
+    ghost use Rattle.testing.specs.Filling.{test_meant};
     ghost use Rattle.testing.specs.TestsLawful.{test_lawful, test_small};
 
-    ghost meaning = { λ t. (tester t).system };
+    ghost meaning = { λ t. (test_meant t).system };
 
     ghost lawful = { λ t. (test_lawful t.ground t.trace.items).lawful };
 
@@ -159,9 +159,9 @@ impl Lts for DistinguishingTest {
 }
 
 impl Test for DistinguishingTest {
-    ghost use Rattle.testing.specs.Filling.{tester};
+    ghost use Rattle.testing.specs.Filling.{test_meant};
 
-    ghost passing = { λ t. (tester t).passes };
+    ghost passing = { λ t. (test_meant t).passes };
 
     #[tactic(auto, using(crate::specs::TestsLawful::test_count, crate::proofs::Rungs::passes_is))]
     fn passes(&self, state: usize) -> bool {
