@@ -1,2 +1,3 @@
 mod LineSteps
+mod PromiseSteps
 mod SystemExamples

@@ -1,3 +1,4 @@
 pub mod Told
 pub mod Printed
+pub mod Promised
 pub mod SystemExamples

@@ -6,12 +6,14 @@ ghost use Rattle.printing.specs.Shown.{newline};
 ghost use Rattle.testing.specs.Filling.{offer_of};
 ghost use Rattle.reports.specs.Told.{told_in};
 ghost use Rattle.reports.specs.Printed.{side_text, name_of, answer_text, place_text, line, files_line};
+ghost use Rattle.reports.specs.Promised.{LineRight};
 
 use cards::faults::{SideFault, WordFault};
 use cards::sides::read_sides;
 use cards::written_card::WrittenCard;
 use comparison::answer::{Answer, Progress};
 use comparison::comparison::Comparison;
+use comparison::laws::comparison_law;
 use printing::traces_shown::ActionsShown;
 use std::alloc::{AllocError, Global};
 use std::fmt;
@@ -114,9 +116,11 @@ pub fn comparison_line(heap: Global, comparison: &Comparison) -> Result<String, 
     answer_line(heap, comparison.ask(), &buffer[..count])
 }
 
-// The line of two card files: what a comparison of them tells when it has gone as far as it goes, or the first fault.
+// The line of two card files: what a comparison of them tells when it has gone as far as it goes, or the first fault. It is right: what it says of the
+// two cards holds, in the words of traces and tests.
 pub fn files_line(heap: Global, left: &[u8], right: &[u8]) -> Result<String, AllocError>
-    ensures { IfOk result (λ s. string_bytes s ≡ files_line left.now right.now) }
+    ensures text { IfOk result (λ s. string_bytes s ≡ files_line left.now right.now) }
+    ensures right { IfOk result (λ s. LineRight left.now right.now (string_bytes s)) }
 {
     let mut left_card = WrittenCard::new(heap)?;
     let mut right_card = WrittenCard::new(heap)?;
@@ -128,5 +132,6 @@ pub fn files_line(heap: Global, left: &[u8], right: &[u8]) -> Result<String, All
     };
     // Refused where the answer is not OPEN any more, and then nothing is left to do.
     let _ = comparison.advance(2048);
+    comparison_law();
     comparison_line(heap, &comparison)
 }

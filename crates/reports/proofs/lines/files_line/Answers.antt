@@ -1,6 +1,9 @@
-use Rattle.std.proofs.Common.{◌≡◌, ℕ, List, IfOk, string_bytes, subst}
+use Rattle.std.proofs.Common.{◌≡◌, ℕ, List, IfOk, string_bytes, sym, subst}
 use Rattle.cards.specs.Cards.{system}
+use Rattle.reports.specs.Printed.{files_line}
+use Rattle.reports.specs.Promised.{LineRight}
 use Rattle.reports.proofs.LineSteps.{compared_by, files_told}
+use Rattle.reports.proofs.PromiseSteps.{ok_kept, read_right}
 use Rattle.reports.proofs.lines.files_line.Goals as goal
 
 pub returns : goal.returns
@@ -8,5 +11,11 @@ returns c =
     let l = c.read_sides.new.left in
     let r = c.read_sides.new.right in
     let told = compared_by (system l) (system r) c.in-Ok.comparison c.advance.new.self c.in-Ok.ensures c.advance.ensures.same c.advance.ensures.after in
-    subst (λ (t : List ℕ). IfOk c.comparison_line.result (λ s. string_bytes s ≡ t))
-    (files_told c.args.left.now c.args.right.now _ _ l r _ c.in_default.ensures.told c.read_sides.ensures.left c.read_sides.ensures.right told) c.comparison_line.ensures
+    let same = files_told c.args.left.now c.args.right.now _ _ l r _ c.in_default.ensures.told c.read_sides.ensures.left c.read_sides.ensures.right told in
+    let kept = read_right c.comparison_law.ensures.promise c.comparison_law.ensures.rows c.args.left.now c.args.right.now _ _ l r c.in_default.ensures.told c.read_sides.ensures.left c.read_sides.ensures.right in
+    let text : IfOk c.comparison_line.result (λ s. string_bytes s ≡ files_line c.args.left.now c.args.right.now) =
+    subst (λ (t : List ℕ). IfOk c.comparison_line.result (λ s. string_bytes s ≡ t)) same c.comparison_line.ensures in
+    record {
+      text = text;
+      right = ok_kept c.comparison_line.result (λ s e. subst (LineRight c.args.left.now c.args.right.now) (sym e) kept) text;
+    }
