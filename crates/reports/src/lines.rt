@@ -4,7 +4,7 @@ ghost use Rattle.comparison.specs.Replies.{answer_of};
 ghost use Rattle.comparison.specs.Compared.{state_of};
 ghost use Rattle.printing.specs.Shown.{newline};
 ghost use Rattle.testing.specs.Filling.{offer_of};
-ghost use Rattle.reports.specs.Told.{told_in};
+ghost use Rattle.reports.specs.Told.{told_in, compared};
 ghost use Rattle.reports.specs.Printed.{side_text, name_of, answer_text, place_text, line, files_line};
 
 use cards::faults::{SideFault, WordFault};
@@ -12,6 +12,7 @@ use cards::sides::read_sides;
 use cards::written_card::WrittenCard;
 use comparison::answer::{Answer, Progress};
 use comparison::comparison::Comparison;
+use lts::system::Lts;
 use printing::traces_shown::ActionsShown;
 use std::alloc::{AllocError, Global};
 use std::fmt;
@@ -114,7 +115,23 @@ pub fn comparison_line(heap: Global, comparison: &Comparison) -> Result<String, 
     answer_line(heap, comparison.ask(), &buffer[..count])
 }
 
-// The line of two card files: what a comparison of them tells when it has gone as far as it goes, or the first fault.
+// The line of two systems, of any two kinds: what a comparison of them tells when it has gone as far as it goes.
+pub fn systems_line<L: Lts + Drop, R: Lts + Drop>(
+    heap: Global,
+    left: L,
+    right: R,
+) -> Result<String, AllocError>
+    ensures { IfOk result (λ s. string_bytes s ≡ line (Ok (compared 2048 (L.meaning left) (R.meaning right)))) }
+{
+    let Ok(mut comparison) = Comparison::open(heap, left, right) else {
+        return Err(AllocError);
+    };
+    // Refused where the answer is not OPEN any more, and then nothing is left to do.
+    let _ = comparison.advance(2048);
+    comparison_line(heap, &comparison)
+}
+
+// The line of two card files: the same of the two cards, or the first fault.
 pub fn files_line(heap: Global, left: &[u8], right: &[u8]) -> Result<String, AllocError>
     ensures { IfOk result (λ s. string_bytes s ≡ files_line left.now right.now) }
 {
@@ -123,10 +140,5 @@ pub fn files_line(heap: Global, left: &[u8], right: &[u8]) -> Result<String, All
     if let Err(fault) = read_sides(&mut left_card, &mut right_card, left, right) {
         return fault_line(heap, fault);
     }
-    let Ok(mut comparison) = Comparison::open(heap, left_card, right_card) else {
-        return Err(AllocError);
-    };
-    // Refused where the answer is not OPEN any more, and then nothing is left to do.
-    let _ = comparison.advance(2048);
-    comparison_line(heap, &comparison)
+    systems_line(heap, left_card, right_card)
 }

@@ -1,12 +1,8 @@
-use Rattle.std.proofs.Common.{◌≡◌, ℕ, List, IfOk, string_bytes, subst}
-use Rattle.cards.specs.Cards.{system}
-use Rattle.reports.proofs.LineSteps.{compared_by, files_told}
+use Rattle.std.proofs.Common.{◌≡◌, ℕ, List, IfOk, string_bytes, subst, refl}
+use Rattle.reports.proofs.LineSteps.{files_told}
 use Rattle.reports.proofs.lines.files_line.Goals as goal
 
 pub returns : goal.returns
 returns c =
-    let l = c.read_sides.new.left in
-    let r = c.read_sides.new.right in
-    let told = compared_by (system l) (system r) c.in-Ok.comparison c.advance.new.self c.in-Ok.ensures c.advance.ensures.same c.advance.ensures.after in
-    subst (λ (t : List ℕ). IfOk c.comparison_line.result (λ s. string_bytes s ≡ t))
-    (files_told c.args.left.now c.args.right.now _ _ l r _ c.in_default.ensures.told c.read_sides.ensures.left c.read_sides.ensures.right told) c.comparison_line.ensures
+    subst (λ (t : List ℕ). IfOk c.systems_line.result (λ s. string_bytes s ≡ t))
+    (files_told c.args.left.now c.args.right.now _ _ c.read_sides.new.left c.read_sides.new.right _ c.in_default.ensures.told c.read_sides.ensures.left c.read_sides.ensures.right refl) c.systems_line.ensures
