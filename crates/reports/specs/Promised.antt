@@ -18,8 +18,12 @@ pub record Right (l r : System) (t : Told) : Type 0 where
   pub at_full : t.answer ≡ full → MoreThan l r 2048 × (t.rows ≡ 2048)
   pub never_open : t.answer ≢ open'
 
+-- The line s of two systems is that of what is right of them.
+abbrev pub SystemsRight : System → System → List ℕ → Type 0
+SystemsRight l r s = (t : Told) × (s ≡ line (Ok t)) × Right l r t
+
 -- The line s of two files. Of two good ones it is the line of what is right of their cards. One that says ALIKE is of two good files, and no test
 -- tells their cards apart.
 pub record LineRight (left right s : List ℕ) : Type 0 where
-  pub told : (two : Two) → files left right ≡ Ok two → (t : Told) × (s ≡ line (Ok t)) × Right two.left two.right t
+  pub told : (two : Two) → files left right ≡ Ok two → SystemsRight two.left two.right s
   pub alike : (n : ℕ) → s ≡ answer_text alike n [] ++ newline → (two : Two) × (files left right ≡ Ok two) × Alike two.left two.right

@@ -4,9 +4,9 @@ ghost use Rattle.comparison.specs.Replies.{answer_of};
 ghost use Rattle.comparison.specs.Compared.{state_of};
 ghost use Rattle.printing.specs.Shown.{newline};
 ghost use Rattle.testing.specs.Filling.{offer_of};
-ghost use Rattle.reports.specs.Told.{told_in};
+ghost use Rattle.reports.specs.Told.{told_in, compared};
 ghost use Rattle.reports.specs.Printed.{side_text, name_of, answer_text, place_text, line, files_line};
-ghost use Rattle.reports.specs.Promised.{LineRight};
+ghost use Rattle.reports.specs.Promised.{SystemsRight, LineRight};
 
 use cards::faults::{SideFault, WordFault};
 use cards::sides::read_sides;
@@ -14,6 +14,7 @@ use cards::written_card::WrittenCard;
 use comparison::answer::{Answer, Progress};
 use comparison::comparison::Comparison;
 use comparison::laws::comparison_law;
+use lts::system::Lts;
 use printing::traces_shown::ActionsShown;
 use std::alloc::{AllocError, Global};
 use std::fmt;
@@ -116,8 +117,26 @@ pub fn comparison_line(heap: Global, comparison: &Comparison) -> Result<String, 
     answer_line(heap, comparison.ask(), &buffer[..count])
 }
 
-// The line of two card files: what a comparison of them tells when it has gone as far as it goes, or the first fault. It is right: what it says of the
-// two cards holds, in the words of traces and tests.
+// The line of two systems, of any two kinds: what a comparison of them tells when it has gone as far as it goes. It is right: what it says of
+// them holds, in the words of traces and tests.
+pub fn systems_line<L: Lts + Drop, R: Lts + Drop>(
+    heap: Global,
+    left: L,
+    right: R,
+) -> Result<String, AllocError>
+    ensures text { IfOk result (λ s. string_bytes s ≡ line (Ok (compared 2048 (L.meaning left) (R.meaning right)))) }
+    ensures right { IfOk result (λ s. SystemsRight (L.meaning left) (R.meaning right) (string_bytes s)) }
+{
+    let Ok(mut comparison) = Comparison::open(heap, left, right) else {
+        return Err(AllocError);
+    };
+    // Refused where the answer is not OPEN any more, and then nothing is left to do.
+    let _ = comparison.advance(2048);
+    comparison_law();
+    comparison_line(heap, &comparison)
+}
+
+// The line of two card files: the same of the two cards, or the first fault. It is right as well.
 pub fn files_line(heap: Global, left: &[u8], right: &[u8]) -> Result<String, AllocError>
     ensures text { IfOk result (λ s. string_bytes s ≡ files_line left.now right.now) }
     ensures right { IfOk result (λ s. LineRight left.now right.now (string_bytes s)) }
@@ -127,11 +146,6 @@ pub fn files_line(heap: Global, left: &[u8], right: &[u8]) -> Result<String, All
     if let Err(fault) = read_sides(&mut left_card, &mut right_card, left, right) {
         return fault_line(heap, fault);
     }
-    let Ok(mut comparison) = Comparison::open(heap, left_card, right_card) else {
-        return Err(AllocError);
-    };
-    // Refused where the answer is not OPEN any more, and then nothing is left to do.
-    let _ = comparison.advance(2048);
     comparison_law();
-    comparison_line(heap, &comparison)
+    systems_line(heap, left_card, right_card)
 }
