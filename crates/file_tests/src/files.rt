@@ -41,35 +41,30 @@ fn words_low_byte_first(rt: HostRuntime) -> Result<(), Fail> {
 // One to three bytes before an end are a missing word, after an end they follow it; an earlier fault is told first.
 #[test]
 fn leftover_bytes(rt: HostRuntime) -> Result<(), Fail> {
-    let heap = rt.alloc();
-    assert_eq!(rt; told(heap, &[])?, fault(Reason::Missing, 0));
-    assert_eq!(rt; told(heap, &[1])?, fault(Reason::Missing, 0));
-    assert_eq!(rt; told(heap, &[1, 0, 0, 0x10, 0])?, fault(Reason::Missing, 1));
-    assert_eq!(rt;
-        told(heap, &[1, 0, 0, 0x10, 0, 0])?,
-        fault(Reason::Missing, 1)
-    );
-    assert_eq!(rt;
-        told(heap, &[1, 0, 0, 0x10, 0, 0, 0])?,
-        fault(Reason::Missing, 1)
-    );
-    assert_eq!(rt;
-        told(heap, &[1, 0, 0, 0x10, 0, 0, 0, 0x50, 7])?,
-        fault(Reason::Trailing, 2)
-    );
-    assert_eq!(rt;
-        told(heap, &[1, 0, 0, 0x10, 0, 0, 0, 0x50, 0, 0])?,
-        fault(Reason::Trailing, 2)
-    );
-    assert_eq!(rt;
-        told(heap, &[1, 0, 0, 0x10, 0, 0, 0, 0x50, 0, 0, 0])?,
-        fault(Reason::Trailing, 2)
-    );
-    assert_eq!(rt;
-        told(heap, &[0, 0, 0, 0x10, 0, 0, 0, 0x50, 9])?,
-        fault(Reason::Range, 0)
-    );
-    assert_eq!(rt; told(heap, &BLANK)?, Ok(()));
+    let cases: [(&[u8], Result<(), CardFault>); 10] = [
+        (&[], fault(Reason::Missing, 0)),
+        (&[1], fault(Reason::Missing, 0)),
+        (&[1, 0, 0, 0x10, 0], fault(Reason::Missing, 1)),
+        (&[1, 0, 0, 0x10, 0, 0], fault(Reason::Missing, 1)),
+        (&[1, 0, 0, 0x10, 0, 0, 0], fault(Reason::Missing, 1)),
+        (
+            &[1, 0, 0, 0x10, 0, 0, 0, 0x50, 7],
+            fault(Reason::Trailing, 2),
+        ),
+        (
+            &[1, 0, 0, 0x10, 0, 0, 0, 0x50, 0, 0],
+            fault(Reason::Trailing, 2),
+        ),
+        (
+            &[1, 0, 0, 0x10, 0, 0, 0, 0x50, 0, 0, 0],
+            fault(Reason::Trailing, 2),
+        ),
+        (&[0, 0, 0, 0x10, 0, 0, 0, 0x50, 9], fault(Reason::Range, 0)),
+        (&BLANK, Ok(())),
+    ];
+    for (bytes, wanted) in cases {
+        assert_eq!(rt; told(rt.alloc(), bytes)?, wanted, "{bytes:?}");
+    }
     Ok(())
 }
 

@@ -16,31 +16,32 @@ struct Refusal {
 
 // One function for cards and tests would be no plainer: no trait has the `read` and `write` of both, and each is asked something else afterwards.
 impl Refusal {
-    // The words are no card, and the card that was read before stays: action 0 leads from state 0 to state 1.
-    fn card(self, rt: &impl Abort, place: usize, words: &[u32]) -> Result<(), Fail> {
+    // The words, each with the place of the fault, are no card, and the card that was read before stays: action 0 leads from state 0 to state 1.
+    fn cards(self, rt: &impl Abort, cases: &[(usize, &[u32])]) -> Result<(), Fail> {
+        let reason = self.reason;
         let mut card = WrittenCard::new(self.heap)?;
         card.read(&[0x1001_0002, 0x2000_0001, 0x5000_0000])?;
-        let fault = WordFault {
-            reason: self.reason,
-            place,
-        };
-        assert_eq!(rt; card.read(words), Err(fault));
-        assert_eq!(rt; card.visible(0, 0).bits(), 0b10);
-        let mut out = [0; 3];
-        assert_eq!(rt; card.write(&mut out), Ok(3));
-        assert_eq!(rt; out, [0x1001_0002, 0x2000_0001, 0x5000_0000]);
+        for (place, words) in cases {
+            let place = *place;
+            assert_eq!(rt;
+                card.read(words),
+                Err(WordFault { reason, place }),
+                "{words:?}"
+            );
+            assert_eq!(rt; card.visible(0, 0).bits(), 0b10);
+            let mut out = [0; 3];
+            assert_eq!(rt; card.write(&mut out), Ok(3));
+            assert_eq!(rt; out, [0x1001_0002, 0x2000_0001, 0x5000_0000]);
+        }
         Ok(())
     }
 
     // The words are no test, and the test that was read before stays: a silent transition leads from state 0 to state 1, which passes.
     fn test(self, rt: &impl Abort, place: usize, words: &[u32]) -> Result<(), Fail> {
+        let reason = self.reason;
         let mut test = WrittenTest::new(self.heap)?;
         test.read(&[0x1001_0002, 0x3000_0001, 0x4000_0001, 0x5000_0000])?;
-        let fault = WordFault {
-            reason: self.reason,
-            place,
-        };
-        assert_eq!(rt; test.read(words), Err(fault));
+        assert_eq!(rt; test.read(words), Err(WordFault { reason, place }));
         assert_eq!(rt; test.hidden(0).bits(), 0b10);
         assert!(rt; test.passes(1));
         let mut out = [0; 4];
@@ -57,9 +58,12 @@ fn missing(rt: HostRuntime) -> Result<(), Fail> {
         heap: rt.alloc(),
         reason: Reason::Missing,
     };
-    missing.card(&rt, 0, &[])?;
-    missing.card(&rt, 1, &[0x1000_0001])?;
-    missing.card(&rt, 2, &[0x1001_0001, 0x2000_0000])?;
+    let cards: [(usize, &[u32]); 3] = [
+        (0, &[]),
+        (1, &[0x1000_0001]),
+        (2, &[0x1001_0001, 0x2000_0000]),
+    ];
+    missing.cards(&rt, &cards)?;
     missing.test(&rt, 2, &[0x1000_0001, 0x4000_0000])
 }
 
@@ -70,14 +74,17 @@ fn kind(rt: HostRuntime) -> Result<(), Fail> {
         heap: rt.alloc(),
         reason: Reason::Kind,
     };
-    kind.card(&rt, 0, &[0x5000_0000])?;
-    kind.card(&rt, 1, &[0x1000_0001, 0x1000_0002, 0x5000_0000])?;
-    kind.card(&rt, 1, &[0x1000_0001, 0x4000_0000, 0x5000_0000])?;
-    kind.card(&rt, 1, &[0x1000_0001, 0x6000_0000])?;
-    kind.card(&rt, 1, &[0x1001_0001, 0x2002_0000, 0x5000_0000])?;
-    kind.card(&rt, 1, &[0x1001_0001, 0x3000_0040, 0x5000_0000])?;
-    kind.test(&rt, 1, &[0x1000_0001, 0x4000_0040, 0x5000_0000])?;
-    kind.card(&rt, 1, &[0x1000_0001, 0x5000_0001])
+    let cards: [(usize, &[u32]); 7] = [
+        (0, &[0x5000_0000]),
+        (1, &[0x1000_0001, 0x1000_0002, 0x5000_0000]),
+        (1, &[0x1000_0001, 0x4000_0000, 0x5000_0000]),
+        (1, &[0x1000_0001, 0x6000_0000]),
+        (1, &[0x1001_0001, 0x2002_0000, 0x5000_0000]),
+        (1, &[0x1001_0001, 0x3000_0040, 0x5000_0000]),
+        (1, &[0x1000_0001, 0x5000_0001]),
+    ];
+    kind.cards(&rt, &cards)?;
+    kind.test(&rt, 1, &[0x1000_0001, 0x4000_0040, 0x5000_0000])
 }
 
 // No state, 65 states, a start that is none, 257 lines.
@@ -87,10 +94,13 @@ fn range_of_the_head(rt: HostRuntime) -> Result<(), Fail> {
         heap: rt.alloc(),
         reason: Reason::Range,
     };
-    range.card(&rt, 0, &[0x1000_0000, 0x5000_0000])?;
-    range.card(&rt, 0, &[0x1000_0041, 0x5000_0000])?;
-    range.card(&rt, 0, &[0x1000_0101, 0x5000_0000])?;
-    range.card(&rt, 0, &[0x1101_0001, 0x5000_0000])
+    let cards: [(usize, &[u32]); 4] = [
+        (0, &[0x1000_0000, 0x5000_0000]),
+        (0, &[0x1000_0041, 0x5000_0000]),
+        (0, &[0x1000_0101, 0x5000_0000]),
+        (0, &[0x1101_0001, 0x5000_0000]),
+    ];
+    range.cards(&rt, &cards)
 }
 
 // A line that leads to no state or leaves none, and a passing state that is none.
@@ -101,19 +111,19 @@ fn range(rt: HostRuntime) -> Result<(), Fail> {
         reason: Reason::Range,
     };
     assert_eq!(rt; range.reason.number(), 3);
-    range.card(
-        &rt,
-        2,
-        &[
-            0x1003_0002,
-            0x2000_0001,
-            0x2000_0842,
-            0x2000_0882,
-            0x5000_0000,
-        ],
-    )?;
-    range.card(&rt, 1, &[0x1001_0002, 0x2000_1000, 0x5000_0000])?;
-    range.card(&rt, 1, &[0x1001_0002, 0x3000_0002, 0x5000_0000])?;
+    let three_states_told_as_two = [
+        0x1003_0002,
+        0x2000_0001,
+        0x2000_0842,
+        0x2000_0882,
+        0x5000_0000,
+    ];
+    let cards: [(usize, &[u32]); 3] = [
+        (2, &three_states_told_as_two),
+        (1, &[0x1001_0002, 0x2000_1000, 0x5000_0000]),
+        (1, &[0x1001_0002, 0x3000_0002, 0x5000_0000]),
+    ];
+    range.cards(&rt, &cards)?;
     range.test(&rt, 1, &[0x1000_0002, 0x4000_0002, 0x5000_0000])
 }
 
@@ -124,16 +134,11 @@ fn order(rt: HostRuntime) -> Result<(), Fail> {
         heap: rt.alloc(),
         reason: Reason::Order,
     };
-    order.card(
-        &rt,
-        2,
-        &[0x1002_0001, 0x2000_0000, 0x2000_0000, 0x5000_0000],
-    )?;
-    order.card(
-        &rt,
-        2,
-        &[0x1002_0002, 0x2000_0001, 0x2000_0000, 0x5000_0000],
-    )?;
+    let cards: [(usize, &[u32]); 2] = [
+        (2, &[0x1002_0001, 0x2000_0000, 0x2000_0000, 0x5000_0000]),
+        (2, &[0x1002_0002, 0x2000_0001, 0x2000_0000, 0x5000_0000]),
+    ];
+    order.cards(&rt, &cards)?;
     order.test(
         &rt,
         2,
@@ -148,12 +153,11 @@ fn lines(rt: HostRuntime) -> Result<(), Fail> {
         heap: rt.alloc(),
         reason: Reason::Lines,
     };
-    lines.card(
-        &rt,
-        2,
-        &[0x1001_0002, 0x2000_0000, 0x2000_0001, 0x5000_0000],
-    )?;
-    lines.card(&rt, 2, &[0x1002_0001, 0x2000_0000, 0x5000_0000])
+    let cards: [(usize, &[u32]); 2] = [
+        (2, &[0x1001_0002, 0x2000_0000, 0x2000_0001, 0x5000_0000]),
+        (2, &[0x1002_0001, 0x2000_0000, 0x5000_0000]),
+    ];
+    lines.cards(&rt, &cards)
 }
 
 // A word after the end, whatever it is.
@@ -163,8 +167,11 @@ fn trailing(rt: HostRuntime) -> Result<(), Fail> {
         heap: rt.alloc(),
         reason: Reason::Trailing,
     };
-    trailing.card(&rt, 2, &[0x1000_0001, 0x5000_0000, 0x5000_0000])?;
-    trailing.card(&rt, 2, &[0x1000_0001, 0x5000_0000, 0xFFFF_FFFF])
+    let cards: [(usize, &[u32]); 2] = [
+        (2, &[0x1000_0001, 0x5000_0000, 0x5000_0000]),
+        (2, &[0x1000_0001, 0x5000_0000, 0xFFFF_FFFF]),
+    ];
+    trailing.cards(&rt, &cards)
 }
 
 // Where one word has two faults, the lower number is told.
@@ -175,24 +182,21 @@ fn first_of_two(rt: HostRuntime) -> Result<(), Fail> {
         heap,
         reason: Reason::Kind,
     };
-    kind.card(&rt, 0, &[0x2000_0000])?;
-    kind.card(&rt, 1, &[0x1001_0001, 0x2002_0001, 0x5000_0000])?;
+    let kinds: [(usize, &[u32]); 2] = [
+        (0, &[0x2000_0000]),
+        (1, &[0x1001_0001, 0x2002_0001, 0x5000_0000]),
+    ];
+    kind.cards(&rt, &kinds)?;
     let range = Refusal {
         heap,
         reason: Reason::Range,
     };
-    range.card(
-        &rt,
-        2,
-        &[0x1002_0002, 0x2000_0800, 0x2000_0002, 0x5000_0000],
-    )?;
+    let ranges: [(usize, &[u32]); 1] = [(2, &[0x1002_0002, 0x2000_0800, 0x2000_0002, 0x5000_0000])];
+    range.cards(&rt, &ranges)?;
     let order = Refusal {
         heap,
         reason: Reason::Order,
     };
-    order.card(
-        &rt,
-        2,
-        &[0x1001_0002, 0x2000_0001, 0x2000_0000, 0x5000_0000],
-    )
+    let orders: [(usize, &[u32]); 1] = [(2, &[0x1001_0002, 0x2000_0001, 0x2000_0000, 0x5000_0000])];
+    order.cards(&rt, &orders)
 }

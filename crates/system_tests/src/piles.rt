@@ -4,6 +4,7 @@ use layers::hide::Hide;
 use layers::parallel::{FitFault, Parallel, fit};
 use lts::sets::ActionSet;
 use lts::system::Lts;
+use printing::systems_shown::system_text;
 use std::array;
 use std::test::*;
 
@@ -143,5 +144,16 @@ fn oversized_is_blank(rt: HostRuntime) -> Result<(), Fail> {
     let blank = Parallel::new(thirteen, five, ActionSet::empty());
     assert!(rt; blank.count() == 1 && blank.start() == 0);
     assert_eq!(rt; sets(&blank, 0), [0; 5]);
+    Ok(())
+}
+
+// State 2 * p + q stands for p in the first counter and q in the second: the first takes in by 0, the second hands out by 2, and the hand-over from 2 to 1 is silent.
+#[test]
+fn printed(rt: HostRuntime) -> Result<(), Fail> {
+    let text = system_text(rt.alloc(), &hand_over()?)?;
+    assert_eq!(rt;
+        text.as_str(),
+        "states 4 start 0\n0-0-2\n1-0-3\n1-2-0\n3-2-2\n2-h-1\n"
+    );
     Ok(())
 }
