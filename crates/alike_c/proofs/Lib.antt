@@ -1,1 +1,3 @@
+mod CallSteps
+mod CardSteps
 mod CounterSteps

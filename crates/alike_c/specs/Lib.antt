@@ -1,2 +1,4 @@
 pub mod Placing
 pub mod Counters
+pub mod CardReplies
+pub mod CallReplies

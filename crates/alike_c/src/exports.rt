@@ -3,11 +3,15 @@ ghost use Rattle.reports.specs.Printed.{files_line as files_line_of};
 ghost use Rattle.printing.specs.Shown.{file_text as file_text_of};
 ghost use Rattle.printing.specs.Trails.{trace_text as trace_text_of};
 ghost use Rattle.printing.specs.Experiments.{experiment_text as experiment_text_of};
+ghost use Rattle.alike_c.specs.CallReplies.{calls_words as calls_words_of};
+ghost use Rattle.alike_c.specs.CardReplies.{words_read};
 ghost use Rattle.alike_c.specs.Counters.{counters_text as counters_text_of};
 ghost use Rattle.alike_c.specs.Placing.{Placed};
 
+use crate::calls::calls_words;
 use crate::counters::counters_text;
-use crate::placing::place_text;
+use crate::placing::{place_text, place_words};
+use crate::words::read_words;
 use printing::cards_shown::file_text;
 use printing::experiments_shown::experiment_text;
 use printing::traces_shown::trace_text;
@@ -57,4 +61,26 @@ pub extern "C" fn alike_counters(first: u32, second: u32, out: &mut [u8], heap: 
     ensures { Placed (counters_text_of first second) out.old out.new result }
 {
     place_text(counters_text(heap, first, second), out)
+}
+
+// The words that a card read from these words is written as, or its first fault.
+#[unsafe(no_mangle)]
+pub extern "C" fn alike_read_words(words: &[u32], out: &mut [u32], heap: Global) -> usize
+    ensures { Placed (words_read words.now) out.old out.new result }
+{
+    place_words(read_words(heap, words), out)
+}
+
+// What a list of calls of a comparison of two card files replies.
+#[unsafe(no_mangle)]
+pub extern "C" fn alike_calls(
+    left: &[u8],
+    right: &[u8],
+    calls: &[u32],
+    replies: &mut [u32],
+    heap: Global,
+) -> usize
+    ensures { Placed (calls_words_of left.now right.now calls.now) replies.old replies.new result }
+{
+    place_words(calls_words(heap, left, right, calls), replies)
 }
