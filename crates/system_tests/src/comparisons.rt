@@ -62,7 +62,7 @@ fn progress(answer: Answer, rows: usize) -> Progress {
     Progress { answer, rows }
 }
 
-// What a call tells. To copy is tried below.
+// What a call tells. To copy is tried by `copies`, and asks here.
 fn reply(comparison: &mut Comparison, call: Call) -> Result<Progress, Refusal> {
     match call {
         Call::Begin(limit) => comparison.begin(limit),
