@@ -1,6 +1,5 @@
 // A list of calls of a comparison as words, and what is replied, as words.
 ghost use Rattle.std.specs.Prelude.{◌≡◌, ◌≤◌, [], ◌∷◌, ◌++◌, length, IfOk, OnOk};
-ghost use Rattle.testing.specs.Filling.{offer_of};
 ghost use Rattle.comparison.specs.Calls.{Copy, reply};
 ghost use Rattle.comparison.specs.Exploration.{told_trace};
 ghost use Rattle.comparison.specs.Filled.{fill_reply};
@@ -17,6 +16,7 @@ use comparison::answer::{Answer, Progress};
 use comparison::comparison::Comparison;
 use comparison::refusal::Refusal;
 use lts::system::Lts;
+use reports::lines::offer_word;
 use std::alloc::{AllocError, Global};
 use testing::distinguishing::DistinguishingTest;
 use testing::ground::{Ground, Side};
@@ -69,16 +69,6 @@ fn side_number(side: Side) -> u32
     match side {
         Side::Left => 1,
         Side::Right => 2,
-    }
-}
-
-// The offer of a ground as a word, 0 where it has none.
-fn offer_word(ground: Ground) -> u32
-    ensures { result ≡ offer_of ground }
-{
-    match ground {
-        Ground::Offer(offer) => offer.bits(),
-        Ground::Reach | Ground::Settle => 0,
     }
 }
 

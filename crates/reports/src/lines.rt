@@ -40,7 +40,7 @@ fn ground_name(ground: Ground) -> &'static str
 }
 
 // The offer of a ground as a word, 0 where it has none.
-fn offer_word(ground: Ground) -> u32
+pub fn offer_word(ground: Ground) -> u32
     ensures { result ≡ offer_of ground }
 {
     match ground {
