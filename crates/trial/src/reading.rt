@@ -1,5 +1,6 @@
 // Piles of layers that are read from text: a layer stands before what it stands on.
 use anyhow::{Context, Result, bail};
+use cards::lines::Word;
 use cards::written_card::WrittenCard;
 use layers::counter::Counter;
 use layers::hide::Hide;
@@ -9,70 +10,94 @@ use lts::system::Lts;
 use piles::lowest::Lowest;
 use piles::pile::Pile;
 use std::alloc::Global;
+use std::str::SplitWhitespace;
 
-// A pile of at most four layers.
-pub(crate) type Deep = Pile<Pile<Pile<Pile<Lowest>>>>;
+// A pile of at most three layers.
+type Three = Pile<Pile<Pile<Lowest>>>;
+
+// A pile of at most four layers, the topmost of which hides; one that hides nothing stands for none.
+pub(crate) type Deep = Hide<Three>;
+
+// A layer of a pile without what it stands on.
+#[derive(Drop)]
+enum Layer {
+    Lowest(Lowest),
+    Hide(ActionSet),
+    Compose(ActionSet),
+}
 
 fn word(text: &str) -> Result<u32> {
     Ok(u32::from_str_radix(text, 16)?)
 }
 
-fn actions(text: &str) -> Result<ActionSet> {
-    Ok(ActionSet::from_bits(word(text)?))
-}
-
-// A card of the words up to the first end word, and the words that are left.
-fn card<'a>(heap: Global, words: &'a [&'a str]) -> Result<(WrittenCard, &'a [&'a str])> {
-    let last = words
-        .iter()
-        .position(|word| *word == "50000000")
-        .context("a card has no end")?;
-    let (own, rest) = words.split_at(last + 1);
-    let own: Vec<u32> = own.iter().map(|text| word(text)).try_collect(heap)?;
+// A card of the words up to the first end word.
+fn card(heap: Global, words: &mut SplitWhitespace<'_>) -> Result<WrittenCard> {
+    let end = u32::from(Word::End);
+    let mut own = Vec::new(heap);
+    for text in words {
+        let next = word(text)?;
+        own.push(next)?;
+        if next == end {
+            break;
+        }
+    }
     let mut card = WrittenCard::new(heap)?;
     card.read(own.as_slice())?;
-    Ok((card, rest))
+    Ok(card)
 }
 
-// What is read from the words of a pile, with the words that are left.
+// The word that comes next.
+fn next<'a>(words: &mut SplitWhitespace<'a>) -> Result<&'a str> {
+    words.next().context("the pile ends too early")
+}
+
+fn next_layer(heap: Global, words: &mut SplitWhitespace<'_>) -> Result<Layer> {
+    match next(words)? {
+        "counter" => {
+            let capacity = next(words)?.parse()?;
+            let input = next(words)?.parse()?;
+            let output = next(words)?.parse()?;
+            let counter = Counter::new(capacity, input, output)?;
+            Ok(Layer::Lowest(Lowest::Counter(counter)))
+        }
+        "card" => Ok(Layer::Lowest(Lowest::Card(card(heap, words)?))),
+        "hide" => Ok(Layer::Hide(ActionSet::from_bits(word(next(words)?)?))),
+        "compose" => Ok(Layer::Compose(ActionSet::from_bits(word(next(words)?)?))),
+        _ => bail!("no such layer"),
+    }
+}
+
+// What can be read of words, from its first layer on.
 trait Read: Lts + Drop + Sized {
-    fn read<'a>(heap: Global, words: &'a [&'a str]) -> Result<(Self, &'a [&'a str])>;
+    fn read_below(heap: Global, layer: Layer, words: &mut SplitWhitespace<'_>) -> Result<Self>;
+
+    fn read(heap: Global, words: &mut SplitWhitespace<'_>) -> Result<Self> {
+        let layer = next_layer(heap, words)?;
+        Self::read_below(heap, layer, words)
+    }
 }
 
 impl Read for Lowest {
-    fn read<'a>(heap: Global, words: &'a [&'a str]) -> Result<(Lowest, &'a [&'a str])> {
-        match words {
-            ["counter", capacity, input, output, rest @ ..] => {
-                let counter = Counter::new(capacity.parse()?, input.parse()?, output.parse()?)?;
-                Ok((Lowest::Counter(counter), rest))
-            }
-            ["card", rest @ ..] => {
-                let (card, rest) = card(heap, rest)?;
-                Ok((Lowest::Card(card), rest))
-            }
-            _ => bail!("a pile of more than four layers, or no layer"),
+    fn read_below(_heap: Global, layer: Layer, _words: &mut SplitWhitespace<'_>) -> Result<Lowest> {
+        match layer {
+            Layer::Lowest(lowest) => Ok(lowest),
+            Layer::Hide(_) | Layer::Compose(_) => bail!("too many layers"),
         }
     }
 }
 
 impl<P: Read> Read for Pile<P> {
-    fn read<'a>(heap: Global, words: &'a [&'a str]) -> Result<(Pile<P>, &'a [&'a str])> {
-        match words {
-            ["hide", set, rest @ ..] => {
-                let (below, rest) = P::read(heap, rest)?;
-                Ok((Pile::Hidden(Hide::new(below, actions(set)?)), rest))
+    fn read_below(heap: Global, layer: Layer, words: &mut SplitWhitespace<'_>) -> Result<Pile<P>> {
+        match layer {
+            Layer::Lowest(_) => Ok(Pile::Below(P::read_below(heap, layer, words)?)),
+            Layer::Hide(actions) => {
+                let below = P::read(heap, words)?;
+                Ok(Pile::Hidden(Hide::new(below, actions)))
             }
-            ["compose", set, rest @ ..] => {
-                let (left, rest) = P::read(heap, rest)?;
-                let (right, rest) = P::read(heap, rest)?;
-                Ok((
-                    Pile::Composed(Parallel::new(left, right, actions(set)?)),
-                    rest,
-                ))
-            }
-            _ => {
-                let (below, rest) = P::read(heap, words)?;
-                Ok((Pile::Below(below), rest))
+            Layer::Compose(shared) => {
+                let left = P::read(heap, words)?;
+                let right = P::read(heap, words)?;
+                Ok(Pile::Composed(Parallel::new(left, right, shared)))
             }
         }
     }
@@ -80,9 +105,16 @@ impl<P: Read> Read for Pile<P> {
 
 // The pile of a text that holds nothing else.
 pub(crate) fn pile(heap: Global, text: &str) -> Result<Deep> {
-    let words: Vec<&str> = text.split(' ').collect(heap)?;
-    match Deep::read(heap, words.as_slice())? {
-        (pile, []) => Ok(pile),
-        _ => bail!("words after the end of a pile"),
+    let mut words = text.split_whitespace();
+    let (below, hidden) = match next_layer(heap, &mut words)? {
+        Layer::Hide(actions) => (Three::read(heap, &mut words)?, actions),
+        layer => (
+            Three::read_below(heap, layer, &mut words)?,
+            ActionSet::empty(),
+        ),
+    };
+    match words.next() {
+        None => Ok(Hide::new(below, hidden)),
+        Some(_) => bail!("words after the end of a pile"),
     }
 }
