@@ -7,6 +7,7 @@ mod distinguishing_tests;
 pub mod experiment;
 pub mod ground;
 mod joint_pairs;
+mod offers;
 pub mod passing;
 mod searching;
 pub mod splitting;
