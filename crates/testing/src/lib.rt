@@ -9,6 +9,7 @@ pub mod ground;
 mod joint_pairs;
 mod offers;
 pub mod passing;
+mod reached_pairs;
 mod searching;
 pub mod splitting;
 #[cfg(test)]
