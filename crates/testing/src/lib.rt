@@ -7,7 +7,9 @@ mod distinguishing_tests;
 pub mod experiment;
 pub mod ground;
 mod joint_pairs;
+mod offers;
 pub mod passing;
+mod reached_pairs;
 mod searching;
 pub mod splitting;
 #[cfg(test)]
