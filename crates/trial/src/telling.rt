@@ -2,12 +2,11 @@
 use crate::calls::replies;
 use crate::reading::pile;
 use anyhow::{Result, bail};
-use comparison::comparison::Comparison;
 use printing::cards_shown::file_text;
 use printing::experiments_shown::experiment_text;
 use printing::traces_shown::trace_text;
-use reports::lines::{comparison_line, files_line};
-use std::alloc::{AllocError, Global};
+use reports::lines::{files_line, systems_line};
+use std::alloc::Global;
 
 // Bytes, each written as two digits to the base sixteen; a dash where there are none.
 pub(crate) fn bytes(heap: Global, text: &str) -> Result<Vec<u8>> {
@@ -19,14 +18,7 @@ pub(crate) fn bytes(heap: Global, text: &str) -> Result<Vec<u8>> {
 
 // The line of two piles.
 fn piles_line(heap: Global, left: &str, right: &str) -> Result<String> {
-    let left = pile(heap, left)?;
-    let right = pile(heap, right)?;
-    let Ok(mut comparison) = Comparison::open(heap, left, right) else {
-        return Err(AllocError.into());
-    };
-    // Refused where the answer is not OPEN any more.
-    let _ = comparison.advance(2048);
-    Ok(comparison_line(heap, &comparison)?)
+    Ok(systems_line(heap, pile(heap, left)?, pile(heap, right)?)?)
 }
 
 // The text that is told of a case, of this sort and with this handed over.
