@@ -9,5 +9,6 @@ pub mod Collected
 pub mod Meant
 pub mod Named
 pub mod Written
+pub mod Laid
 pub mod Holding
 pub mod Files

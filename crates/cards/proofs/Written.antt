@@ -1,5 +1,5 @@
 -- The words of what is held, as they are written one after another. Assumes nothing.
-use Rattle.std.proofs.Common.{◌≡◌, ℕ, ◌+◌, ◌^◌, ◌<◌, List, [], ◌∷◌, ◌++◌, map, length, sym, refl, ap, ◌∙◌, subst, append-nil, arith, length-append}
+use Rattle.std.proofs.Common.{◌≡◌, ℕ, ◌+◌, ◌^◌, ◌<◌, List, [], ◌∷◌, ◌++◌, map, length, sym, refl, ap, ◌∙◌, subst, append-nil, append_assoc, arith, length-append}
 use mathlib.Core.List.{Memᴰ}
 use lib.ListN.{length-map}
 use Rattle.lts.specs.Sets.{members}
@@ -12,6 +12,9 @@ use Rattle.cards.specs.Words.{line_word, passing_word, end_word}
 module _ (s rest next q : ℕ) (come : List ℕ) (h : s < 2 ^ 64) (inv : members s ≡ come ++ members rest) (step : members rest ≡ q ∷ members next) where
   come_on : members s ≡ come ++ (q ∷ members next)
   come_on = inv ∙ ap (λ (r : List ℕ). come ++ r) step
+
+  pub come_more : members s ≡ (come ++ (q ∷ [])) ++ members next
+  come_more = come_on ∙ sym (append_assoc come (q ∷ []) (members next))
 
   pub come_below : q < 64
   come_below =

@@ -1,5 +1,5 @@
 -- What a card or a test file holds, and its words. Assumes nothing.
-use Rattle.std.specs.Prelude.{ℕ, cond, List, [], ◌∷◌, ◌++◌, map, length, drop, Ok, Err, Result, nat_le}
+use Rattle.std.specs.Prelude.{ℕ, ◌+◌, cond, List, [], ◌∷◌, ◌++◌, map, length, take, drop, Ok, Err, Result, nat_le}
 use Rattle.lts.specs.Sets.{inserted, members}
 use Rattle.cards.specs.declared.faults.ShortBuffer.{ShortBuffer}
 use Rattle.cards.specs.declared.faults.WordFault.{WordFault}
@@ -37,6 +37,10 @@ held ws (Err e) = Err e
 -- what the words of a card or a test hold, or the first fault
 unfoldable pub read_words : Role → List ℕ → Result Contents WordFault
 read_words role ws = held ws (check role ws)
+
+-- words laid over a buffer from a place on; the rest of the buffer stays
+abbrev pub laid : ℕ → List ℕ → List ℕ → List ℕ
+laid at ws out = take at out ++ (ws ++ drop (at + length ws) out)
 
 -- what writing tells, and what the buffer then holds: one that is too short is refused, and stays as it is
 abbrev pub wrote : List ℕ → List ℕ → Result ℕ ShortBuffer

@@ -1,52 +1,65 @@
 // Writing words into a caller's buffer.
-ghost use Rattle.std.specs.Prelude.{◌≡◌};
+ghost use Rattle.std.specs.Prelude.{◌≡◌, ℕ, ◌+◌, ◌≤◌, map, length};
+ghost use Rattle.lts.specs.Sets.{members};
 ghost use Rattle.cards.specs.Cards.{contents_with};
-ghost use Rattle.cards.specs.Contents.{wrote, buffer, written};
+ghost use Rattle.cards.specs.Contents.{laid, wrote, buffer, written};
+ghost use Rattle.cards.specs.Words.{line_word, passing_word};
 
 use crate::faults::ShortBuffer;
 use crate::lines::*;
 use crate::written_card::WrittenCard;
-use arrayvec::ArrayVec;
 use lts::sets::StateSet;
 
 // The most words that there can be: a head, 256 lines, 64 passing states and an end.
 pub(crate) const MOST_WORDS: usize = 322;
 
-impl WrittenCard {
-    // The words of the card with these passing states.
-    fn words(&self, passing: StateSet) -> ArrayVec<u32, MOST_WORDS>
-        ensures { result.items ≡ written (contents_with passing.bits self.now) }
-    {
-        let mut words = ArrayVec::<u32, MOST_WORDS>::new();
-        let head = Head {
-            lines: self.lines.len(),
-            start: self.start,
-            states: self.states,
-        };
-        // Its numbers are in range, as the card keeps them.
-        words.push(u32::try_from(head).unwrap());
-        for line in &self.lines {
-            words.push(u32::from(*line));
-        }
-        for state in passing.members() {
-            words.push(u32::from(Word::Passing(state as u8)));
-        }
-        words.push(u32::from(Word::End));
-        words
+// The words go into the caller's buffer one after another. The place beside each loop stays: gathering them first in a buffer of its own, to copy them from
+// there, takes two to nine times as long.
+fn write_lines(lines: &[Line], out: &mut [u32], at: usize)
+    requires { at + length lines.now ≤ length out.old }
+    ensures { out.new ≡ laid at (map line_word lines.now) out.old }
+{
+    let mut place = at;
+    for line in lines {
+        out[place] = u32::from(*line);
+        place += 1;
     }
+}
 
-    // Writes the words of the card with these passing states, and returns how many they are; a buffer that is too short stays as it is.
+fn write_passing(passing: StateSet, out: &mut [u32], at: usize)
+    requires { at + length (members passing.bits) ≤ length out.old }
+    ensures { out.new ≡ laid at (map passing_word (members passing.bits)) out.old }
+{
+    let mut place = at;
+    for state in passing.members() {
+        out[place] = 0x4000_0000 + state as u32;
+        place += 1;
+    }
+}
+
+impl WrittenCard {
+    // Writes the words of the card with these passing states, and returns how many they are; a buffer that is too short is seen at once, and stays as it is.
     // A caller's buffer, here and in the public calls: writing wants no heap.
     pub(crate) fn write_as(&self, passing: StateSet, out: &mut [u32]) -> Result<usize, ShortBuffer>
         ensures told { result ≡ wrote (written (contents_with passing.bits self.now)) out.old }
         ensures after { out.new ≡ buffer (written (contents_with passing.bits self.now)) out.old }
     {
-        let words = self.words(passing);
-        let count = words.len();
-        if out.len() < count {
+        let lines = self.lines.len();
+        let end = 1 + lines + passing.len();
+        if out.len() <= end {
             return Err(ShortBuffer);
         }
-        out[..count].copy_from_slice(words.as_slice());
-        Ok(count)
+        let head = Head {
+            lines,
+            start: self.start,
+            states: self.states,
+        };
+        // Its numbers are in range, as the card keeps them.
+        let first = u32::try_from(head).unwrap();
+        out[0] = first;
+        write_lines(&self.lines, out, 1);
+        write_passing(passing, out, 1 + lines);
+        out[end] = u32::from(Word::End);
+        Ok(end + 1)
     }
 }

@@ -18,7 +18,7 @@ use Rattle.testing.specs.declared.ground.Ground.TheVariants.{Reach, Settle, Offe
 use Rattle.testing.specs.declared.ground.Shown.TheVariants.{Unable, Divergent, Offers}
 use Rattle.testing.specs.declared.ground.Split.{Split}
 use Rattle.testing.specs.Splits.{BothConvergent, Splits}
-use Rattle.testing.specs.Judging.{split_on, split_rule, told, shown_as, Judges, ShownAs, RuleJudges, MacrostateShows}
+use Rattle.testing.specs.Judging.{split_on, split_rule, told, shown_as, ToldAs, Judges, ShownAs, RuleJudges, MacrostateShows}
 use Rattle.testing.proofs.OneGround.{one_ground}
 use Rattle.testing.proofs.OfferRule.{rule_splits, some≢none}
 
@@ -73,8 +73,7 @@ shown_as_lem m s false c sets a = a.does.1
 shown_as_lem m s true false sets a = (a.does.0 tt, a.converges.1)
 shown_as_lem m s true true sets a = (a.does.0 tt, a.converges.0 tt, a.minimal tt)
 
-told_as : (dl dr cl cr : Bool) (xs ys : Bor (List ActionSet))
-    → told (shown_as dl cl xs) (shown_as dr cr ys) ≡ split_rule dl dr cl cr (bits_of xs.now) (bits_of ys.now)
+pub told_as : ToldAs
 told_as false false cl cr xs ys = refl
 told_as false true cl false xs ys = refl
 told_as false true cl true xs ys = refl

@@ -78,6 +78,11 @@ shown_as false c sets = Unable
 shown_as true false sets = Divergent
 shown_as true true sets = Offers sets
 
+-- What is told of two such is told of the flags and the lists themselves, whatever they are.
+abbrev pub ToldAs : Type 0
+ToldAs = (dl dr cl cr : Bool) (xs ys : Bor (List ActionSet))
+    → told (shown_as dl cl xs) (shown_as dr cr ys) ≡ split_rule dl dr cl cr (bits_of xs.now) (bits_of ys.now)
+
 -- Each of these is shown, whatever they are.
 abbrev pub ShownAs : Type 0
 ShownAs = (m : System) (s : List ℕ) (can convergent : Bool) (sets : Bor (List ActionSet)) → Shows m s can convergent (bits_of sets.now)

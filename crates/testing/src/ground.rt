@@ -1,4 +1,7 @@
 // Why a trace splits two systems, and which of the two passes its distinguishing test.
+ghost use Rattle.std.specs.Prelude.{◌≡◌};
+ghost use Rattle.testing.specs.Judging.{shown_as, ToldAs};
+
 use lts::sets::ActionSet;
 
 // One of the two systems of a comparison.
@@ -31,4 +34,20 @@ pub enum Shown<'a> {
     Unable,
     Divergent,
     Offers(&'a [ActionSet]),
+}
+
+impl<'a> Shown<'a> {
+    // What is shown where the system can do the trace or not, is convergent along it or not, and has these minimal acceptance sets after it. What a trace
+    // shows of one that cannot do it is no more than that, whatever else is said, and of one that is divergent nothing of its sets.
+    #[tactic(auto, using(crate::proofs::Judged::told_as))]
+    pub fn of(does: bool, convergent: bool, minimal: &'a [ActionSet]) -> Shown<'a>
+        ensures value { result ≡ shown_as does convergent minimal.entry }
+        ensures told { ToldAs }
+    {
+        match (does, convergent) {
+            (false, _) => Shown::Unable,
+            (true, false) => Shown::Divergent,
+            (true, true) => Shown::Offers(minimal),
+        }
+    }
 }

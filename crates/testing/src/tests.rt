@@ -44,3 +44,21 @@ fn settles_before_offers(rt: HostRuntime) {
         Some(Split { ground, passer })
     );
 }
+
+// The flags and the sets tell the same as what they show: sets count only where both systems are convergent, and convergence only where both can do the trace.
+#[test]
+fn shown_by_flags(rt: HostRuntime) {
+    let one = [ActionSet::from_bits(1)];
+    let reach = Split {
+        ground: Ground::Reach,
+        passer: Side::Left,
+    };
+    let settle = Split {
+        ground: Ground::Settle,
+        passer: Side::Right,
+    };
+    let divergent = Shown::of(true, false, &one);
+    assert_eq!(rt; split(divergent, Shown::of(false, true, &one)), Some(reach));
+    assert_eq!(rt; split(divergent, Shown::of(true, true, &one)), Some(settle));
+    assert_eq!(rt; split(divergent, Shown::of(true, false, &[])), None);
+}

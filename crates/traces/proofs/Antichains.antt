@@ -1,5 +1,5 @@
 -- Ascending families in which no set contains another, and the minimal acceptance sets. Assumes nothing.
-use Rattle.std.proofs.Common.{◌≡◌, ℕ, zero, suc, ◌<◌, true, false, not, ◌&&◌, eqb, ltb, ◌≢◌, ◌⊎◌, ◌↔◌, List, [], ◌∷◌, sym, refl, ap, ◌∙◌, subst, ap₂, inl, inr, not-suc-le-zero, arith}
+use Rattle.std.proofs.Common.{◌≡◌, ℕ, zero, suc, ◌<◌, true, false, not, ◌&&◌, eqb, ltb, ◌≢◌, ◌⊎◌, ◌↔◌, List, [], ◌∷◌, length, ◌≤◌, sym, refl, ap, ◌∙◌, subst, ap₂, inl, inr, not-suc-le-zero, arith}
 use native.Mathlib.Decide.{ℕ_discrete}
 use lib.Bits.{bit_and, and_self}
 use Rattle.std.proofs.lemmas.Bool.{and_parts, and_from, or_cases, or_parts, or_left, or_right, both_ways, not-true, not_from_false, cond_both, ltb-true, ltb-false, lt-ltb, eqb-true, eq-eqb, cases_Bool}
@@ -8,7 +8,7 @@ use Rattle.lts.specs.System.{System, Lawful}
 use Rattle.lts.specs.Traces.{Acceptance, Minimal, offer}
 use Rattle.traces.specs.Macrostates.{macrostate}
 use Rattle.traces.specs.Families.{Member, covered, all_covered, follows, followed, antichain, without, placed, offered, minimal_below, minimal}
-use Rattle.traces.specs.Offered.{Incomparable}
+use Rattle.traces.specs.Offered.{Incomparable, IsFamily}
 use Rattle.lts.proofs.Membership.{within_subset, subset_within, same_members, has_in, in_has}
 use Rattle.traces.proofs.TraceStates.{states_after, after_below}
 
@@ -78,6 +78,12 @@ antichain_ascending (x ∷ l) a = let p = antichain_parts x l a in (followed_abo
 
 pub antichain_incomparable : (l : List ℕ) → antichain l ≡ true → Incomparable l
 antichain_incomparable l a x y h i f = alike x y l a h i (subset_within x y f)
+
+pub family_of : (l : List ℕ) → antichain l ≡ true → length l ≤ 64 → IsFamily l
+family_of l a few = record { few = few; rising = antichain_ascending l a; apart = antichain_incomparable l a }
+
+pub family_none : (l : List ℕ) → l ≡ [] → IsFamily l
+family_none l e = family_of l (rw e antichain_none) (rw e (omega arith))
 
 -- a set that contains one of the list
 pub covered_member : (x : ℕ) (l : List ℕ) → covered x l ≡ true → (y : ℕ) × Member y l × (within y x ≡ true)

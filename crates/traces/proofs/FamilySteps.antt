@@ -1,21 +1,18 @@
 -- Loops over the sets of a family, step by step. Assumes nothing.
-use Rattle.std.proofs.Common.{◌≡◌, ◌≢◌, ◌<◌, ◌≤◌, zero, All, get_or, ltb, subst, le_refl, not-suc-le-zero, ℕ, suc, ◌+◌, Bool, true, false, cond, not, ◌&&◌, ◌||◌, nat_lt, eqb, ◌↔◌, List, [], ◌∷◌, ◌++◌, length, take, drop, filter, sym, refl, ap, ◌∙◌, arith}
+use Rattle.std.proofs.Common.{◌≡◌, ◌≤◌, ℕ, suc, ◌+◌, Bool, true, false, cond, not, ◌&&◌, ◌||◌, nat_lt, eqb, ◌↔◌, Option, Some, None, unwrap_or, List, [], ◌∷◌, ◌++◌, length, take, drop, filter, sym, refl, ap, ◌∙◌, arith}
 use Rattle.std.specs.List.{list_any, position_or_len}
-use Rattle.std.proofs.lemmas.List.{drop-map, map-append, take-map}
-use Rattle.std.proofs.lemmas.List.Sums.{position_or_len_is}
+use Rattle.std.proofs.lemmas.List.{drop-map, length-map, map-append, take-map}
+use Rattle.std.proofs.lemmas.List.Sums.{prefix_len-le-length}
 use Rattle.std.specs.Cmp.Lexicographic.{pointwise}
 use Rattle.std.specs.Str.{bytes_eq}
 use Rattle.std.proofs.lemmas.Slice.Eq.{bytes_eq-Decides}
 use Rattle.std.proofs.lemmas.List.Recursion.{same_from_clauses}
-use Rattle.std.proofs.lemmas.Bool.{cond-true, cond-false, both_ways, not-true, ltb-true, ltb-false, lt-ltb, le-ltb}
-use Rattle.lts.specs.Sets.{within, Above, Ascending}
-use Rattle.std.specs.List.Sorted.{IsPartitionedBy, IsPartitionPoint, IsNonDecreasingBy}
-use Rattle.std.proofs.lemmas.List.Sorted.{IsPartitionedBy-ltb}
-use Rattle.std.proofs.lemmas.List.Elements.{All-get_or, filter_passes}
+use Rattle.std.proofs.lemmas.Bool.{cond-true, cond-false, cond_both, both_ways, ltb-false}
+use Rattle.lts.specs.Sets.{within}
 use Rattle.traces.specs.Families.{antichain, covered, all_covered, without, placed, offered}
-use Rattle.traces.specs.Offered.{bits_of, free}
+use Rattle.traces.specs.Offered.{bits_of, free, IsFamily}
 use Rattle.lts.specs.SetTypes.{ActionSet}
-use Rattle.traces.proofs.Antichains.{antichain_none, antichain_ascending, within_self, without_antichain, families_equal}
+use Rattle.traces.proofs.Antichains.{antichain_none, families_equal, family_of}
 use Rattle.traces.proofs.Marks.{same_test}
 
 -- the words of a family as those of the list of its sets
@@ -39,37 +36,25 @@ placed_first x (s ∷ l) = pick (nat_lt x s.bits) refl (placed_first x l)
         let next : 1 + n ≡ suc n = omega arith in
         rw (e, next) (ap (λ (xs : List ℕ). s.bits ∷ xs) p)
 
-above_at : (x : ℕ) (l : List ActionSet) (j : ℕ) (d : ActionSet) → Above x (bits_of l) → j < length l → x < (get_or l j d).bits
-above_at x [] j d a b = absurd (not-suc-le-zero b)
-above_at x (s ∷ l) zero d a b = a.0
-above_at x (s ∷ l) (suc j) d a b = above_at x l j d a.1 (omega (arith, b))
+-- where `position` and then `unwrap_or` of the length come
+pub first_or_len : {X : Type 0} (p : X → Bool) (l : List X) (o : Option ℕ) (n : ℕ) → o ≡ cond (nat_lt (position_or_len p l) (length l)) (Some (position_or_len p l)) None
+    → n ≡ length l → unwrap_or o n ≡ position_or_len p l
+first_or_len p l o n e q =
+    let i = position_or_len p l in
+    rw (e, q) (cond_both (nat_lt i (length l)) (Some i) None (λ (o : Option ℕ). unwrap_or o (length l) ≡ i)
+    (λ t. refl)
+    (λ f. omega (arith, ltb-false i (length l) f, prefix_len-le-length (λ x. not (p x)) l)))
 
-rises : (l : List ActionSet) → Ascending (bits_of l) → IsNonDecreasingBy (λ s. s.bits) l
-rises [] a i j d le b = absurd (not-suc-le-zero b)
-rises (s ∷ l) a zero zero d le b = le_refl _
-rises (s ∷ l) a zero (suc j) d le b = omega (arith, above_at s.bits l j d a.0 (omega (arith, b)))
-rises (s ∷ l) a (suc i) zero d le b = absurd (not-suc-le-zero le)
-rises (s ∷ l) a (suc i) (suc j) d le b = rises l a.1 i j d (omega (arith, le)) (omega (arith, b))
-
--- the sets below x stand first
-pub parted : (x : ℕ) (l : List ActionSet) → antichain (bits_of l) ≡ true → IsPartitionedBy (λ s. ltb s.bits x) l
-parted x l a = IsPartitionedBy-ltb (λ s. s.bits) l x (rises l (antichain_ascending (bits_of l) a))
-
-free_differs : (x : ℕ) (s : ActionSet) → free x s ≡ true → x ≢ s.bits
+-- where no set contains x, none leaves
+pub none_contains : (x : ℕ) (l : List ActionSet) → list_any (λ s. within x s.bits) l ≡ false → l ≡ filter (free x) l
 unfolding free
-free_differs x s f e = both_ways (within x s.bits) (not-true (within x s.bits) f) (subst (λ (y : ℕ). within x y ≡ true) e (within_self x))
-
--- where `partition_point` comes among sets that do not contain x
-pub point_first : (x : ℕ) (l : List ActionSet) (i : ℕ) → All (λ s. free x s ≡ true) l → i ≤ length l
-    → IsPartitionPoint (λ s. ltb s.bits x ≡ true) (λ s. ltb s.bits x ≡ false) l i → i ≡ position_or_len (λ s. nat_lt x s.bits) l
-point_first x l i f b point =
-    let d : ActionSet = record { bits = 0 } in
-    sym (position_or_len_is (λ s. nat_lt x s.bits) l i d b
-    (λ k below. let low = ltb-true _ _ (point.0 k d (omega arith) below) in le-ltb x (get_or l k d).bits (omega (arith, low)))
-    (λ few.
-    let high = ltb-false _ _ (point.1 i d (le_refl _) few) in
-    let differs = free_differs x (get_or l i d) (All-get_or (λ s. free x s ≡ true) l i d few f) in
-    lt-ltb x (get_or l i d).bits (omega (arith, high, differs))))
+none_contains x [] e = refl
+none_contains x (s ∷ l) e = pick (within x s.bits) (list_any (λ s. within x s.bits) l) e (none_contains x l)
+  where
+    pick : (b r : Bool) → (b || r) ≡ false → (r ≡ false → l ≡ filter (free x) l) → (s ∷ l) ≡ cond (not b) (s ∷ filter (free x) l) (filter (free x) l)
+    pick false false e f = ap (λ (k : List ActionSet). s ∷ k) (f refl)
+    pick false true e f = absurd (both_ways true e refl)
+    pick true r e f = absurd (both_ways true e refl)
 
 -- the sets that do not contain x
 pub without_kept : (x : ℕ) (l : List ActionSet) → bits_of (filter (free x) l) ≡ without x (bits_of l)
@@ -112,12 +97,6 @@ bits_inserted l i s =
     map-append (λ s. s.bits) (take i l) (s ∷ drop i l)
     ∙ (ap (λ (xs : List ℕ). xs ++ s.bits ∷ bits_of (drop i l)) (sym (take-map (λ s. s.bits) i l)) ∙ ap (λ (xs : List ℕ). take i (bits_of l) ++ s.bits ∷ xs) (sym (drop-map (λ s. s.bits) i l)))
 
-pub left_apart : (x : ℕ) (l left : List ActionSet) → left ≡ filter (free x) l → antichain (bits_of l) ≡ true → antichain (bits_of left) ≡ true
-left_apart x l left e a = rw (e, without_kept x l) (without_antichain x (bits_of l) a)
-
-pub left_free : (x : ℕ) (l left : List ActionSet) → left ≡ filter (free x) l → All (λ s. free x s ≡ true) left
-left_free x l left e = rw e (filter_passes (free x) l)
-
 pub offered_known : (x : ℕ) (l : List ActionSet) → covered x (bits_of l) ≡ true → bits_of l ≡ offered x (bits_of l)
 unfolding offered
 offered_known x l e = sym (cond-true (covered x (bits_of l)) (bits_of l) _ e)
@@ -133,3 +112,7 @@ offered_new s l left after i e w p q =
 
 pub antichain_empty : (l : List ActionSet) → l ≡ [] → antichain (bits_of l) ≡ true
 antichain_empty l e = rw e antichain_none
+
+-- what the family is seen as, by what it keeps
+pub family_kept : (l : List ActionSet) (v : List ℕ) → bits_of l ≡ v → antichain (bits_of l) ≡ true → length l ≤ 64 → IsFamily v
+family_kept l v e a few = rw (sym e) (family_of (bits_of l) a (omega (arith, length-map l (λ s. s.bits))))

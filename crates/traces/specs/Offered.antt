@@ -1,6 +1,6 @@
 -- Lists of sets of actions as lists of numbers, and what a family's laws are. Assumes nothing.
-use Rattle.std.specs.Prelude.{◌≡◌, ℕ, ◌≤◌, Bool, true, not, List, map}
-use Rattle.lts.specs.Sets.{Subset, within}
+use Rattle.std.specs.Prelude.{◌≡◌, ℕ, ◌≤◌, Bool, true, not, List, length, map}
+use Rattle.lts.specs.Sets.{Subset, Ascending, within}
 use Rattle.traces.specs.Families.{Member, antichain}
 use Rattle.lts.specs.SetTypes.{ActionSet}
 
@@ -10,6 +10,12 @@ bits_of l = map (λ s. s.bits) l
 -- no set of the list contains another
 abbrev pub Incomparable : List ℕ → Type 0
 Incomparable l = (x y : ℕ) → Member x l → Member y l → Subset x y → x ≡ y
+
+-- what every family is: at most 64 sets in rising order, none of which contains another
+pub record IsFamily (sets : List ℕ) : Type 0 where
+  pub few : length sets ≤ 64
+  pub rising : Ascending sets
+  pub apart : Incomparable sets
 
 -- s does not contain x
 unfoldable pub free : ℕ → ActionSet → Bool

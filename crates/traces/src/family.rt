@@ -2,7 +2,8 @@
 ghost use Rattle.std.specs.Prelude.{◌≡◌, ◌==◌, ℕ, ◌+◌, ◌<◌, ◌≤◌, Bool, true, ◌&&◌, ◌↔◌, [], ◌∷◌, ◌++◌, length, take, drop, IfOk, is_ok, if◌then◌else◌, vec_len, vec_capacity, nat_lt};
 ghost use Rattle.traces.specs.Families.{covered as covered_by, all_covered, antichain, without, placed, offered};
 ghost use Rattle.lts.specs.Sets.{Ascending};
-ghost use Rattle.traces.specs.Offered.{bits_of, Incomparable};
+ghost use Rattle.traces.specs.Offered.{bits_of, free, Incomparable, IsFamily};
+ghost use Rattle.std.specs.List.{filter, position_or_len};
 ghost use Rattle.std.specs.Cmp.Lexicographic.{pointwise};
 ghost use Rattle.std.specs.Cmp.Rules.{comparing};
 ghost use Rattle.std.proofs.Common.{rules};
@@ -55,6 +56,27 @@ pub fn is_covered(offer: ActionSet, sets: &[ActionSet]) -> bool
     sets.iter().any(|set| set.is_within(offer))
 }
 
+// Takes out the sets that contain the offer. Mostly there is none, and then nothing is moved.
+fn leave_out(sets: &mut Vec<ActionSet>, offer: ActionSet)
+    ensures items { sets.new.items ≡ filter (free offer.bits) sets.old.items }
+    ensures len { vec_len sets.new ≤ vec_len sets.old }
+    ensures capacity { vec_capacity sets.new ≡ vec_capacity sets.old }
+{
+    if sets.iter().any(|set| offer.is_within(*set)) {
+        sets.retain(|set| !offer.is_within(*set));
+    }
+}
+
+// Where the offer stands among sets in rising order. Families are small: looking from the front is faster than halving.
+fn place_of(offer: ActionSet, sets: &[ActionSet]) -> usize
+    ensures place { result ≡ position_or_len (λ s. nat_lt offer.bits s.bits) sets.now }
+    ensures bound { result ≤ length sets.now }
+{
+    sets.iter()
+        .position(|set| offer.bits() < set.bits())
+        .unwrap_or(sets.len())
+}
+
 impl Family {
     pub fn new(heap: Global) -> Result<Family, AllocError>
         ensures { IfOk result (λ f. f ≡ []) }
@@ -75,13 +97,14 @@ impl Family {
         ensures room { is_ok result ≡ nat_lt (length self.old) 64 }
         ensures after { self.new ≡ (if is_ok result then offered offer.bits self.old else self.old) }
         ensures len { length self.new ≤ length self.old + 1 }
+        ensures family { IsFamily self.new }
     {
         if self.sets.len() >= 64 {
             return Err(Full);
         }
         if !is_covered(offer, self.members()) {
-            self.sets.retain(|set| !offer.is_within(*set));
-            let place = self.sets.partition_point(|set| set.bits() < offer.bits());
+            leave_out(&mut self.sets, offer);
+            let place = place_of(offer, self.sets.as_slice());
             let _ = self.sets.insert(place, offer);
         }
         Ok(())
