@@ -1,5 +1,5 @@
 // Cards and tests as files of bytes, words with their low byte first.
-ghost use Rattle.std.specs.Prelude.{◌≡◌, ℕ, ◌≤◌, map, length, Err, MatchResult, OnOk};
+ghost use Rattle.std.specs.Prelude.{◌≡◌, ℕ, ◌≤◌, [], map, length, Err, MatchResult, OnOk};
 ghost use Rattle.std.specs.Int.{w32, from_le_bytes};
 ghost use Rattle.cards.specs.Bytes.{file_words as words_in, in_card, read_bytes};
 ghost use Rattle.cards.specs.Cards.{contents, system, told, after};
@@ -19,27 +19,31 @@ use arrayvec::ArrayVec;
 // The most words of a file that are looked at: one more than there can be.
 const LOOKED_AT: usize = MOST_WORDS + 1;
 
-// Words with their low byte first.
-fn words_of(chunks: &[[u8; 4]]) -> ArrayVec<u32, LOOKED_AT>
-    requires { length chunks.now ≤ 323 }
-    ensures { result.items ≡ map (λ c. from_le_bytes w32 c) chunks.now }
+// Puts words with their low byte first into a buffer.
+fn put_words(chunks: &[[u8; 4]], words: &mut ArrayVec<u32, LOOKED_AT>)
+    requires few { length chunks.now ≤ 323 }
+    requires empty { words.old.items ≡ [] }
+    ensures { words.new.items ≡ map (λ c. from_le_bytes w32 c) chunks.now }
 {
-    let mut words = ArrayVec::<u32, LOOKED_AT>::new();
     for chunk in chunks {
         words.push(u32::from_le_bytes(*chunk));
     }
-    words
 }
 
-// The words of a file, unless bytes are left over: then the first fault is told.
-fn file_words(role: Role, bytes: &[u8]) -> Result<ArrayVec<u32, LOOKED_AT>, CardFault>
-    ensures { MatchResult result (λ ws. (ws.items ≡ words_in bytes.now) × (read_bytes role bytes.now ≡ in_card (read_words role (words_in bytes.now)))) (λ f. read_bytes role bytes.now ≡ Err f) }
+// Puts the words of a file into a buffer, unless bytes are left over: then the first fault is told. The buffer is lent, as handing it back would copy it.
+fn file_words(
+    role: Role,
+    bytes: &[u8],
+    words: &mut ArrayVec<u32, LOOKED_AT>,
+) -> Result<(), CardFault>
+    requires { words.old.items ≡ [] }
+    ensures { MatchResult result (λ _. (words.new.items ≡ words_in bytes.now) × (read_bytes role bytes.now ≡ in_card (read_words role (words_in bytes.now)))) (λ f. read_bytes role bytes.now ≡ Err f) }
 {
     let looked = &bytes[..bytes.len().min(4 * LOOKED_AT)];
     let (chunks, left) = looked.as_chunks::<4>();
-    let words = words_of(chunks);
+    put_words(chunks, words);
     if left.is_empty() {
-        return Ok(words);
+        return Ok(());
     }
     check(role, words.as_slice())?;
     Err(CardFault {
@@ -54,7 +58,8 @@ fn file_words(role: Role, bytes: &[u8]) -> Result<ArrayVec<u32, LOOKED_AT>, Card
 pub(crate) fn check_bytes(role: Role, bytes: &[u8]) -> Result<(), CardFault>
     ensures { result ≡ told (read_bytes role bytes.now) }
 {
-    let words = file_words(role, bytes)?;
+    let mut words = ArrayVec::<u32, LOOKED_AT>::new();
+    file_words(role, bytes, &mut words)?;
     check(role, words.as_slice())?;
     Ok(())
 }
@@ -67,7 +72,8 @@ impl WrittenCard {
         ensures written { OnOk result (written (contents self.new) ≡ words_in bytes.now) }
         ensures says { OnOk result (Says (words_in bytes.now) (system self.new)) }
     {
-        let words = file_words(Role::Card, bytes)?;
+        let mut words = ArrayVec::<u32, LOOKED_AT>::new();
+        file_words(Role::Card, bytes, &mut words)?;
         self.read(words.as_slice())?;
         Ok(())
     }
@@ -84,7 +90,8 @@ impl WrittenTest {
         ensures says { OnOk result (Says (words_in bytes.now) (test_system self.new)) }
         ensures passing { OnOk result (SaysPassing (words_in bytes.now) self.new.passing.bits) }
     {
-        let words = file_words(Role::Test, bytes)?;
+        let mut words = ArrayVec::<u32, LOOKED_AT>::new();
+        file_words(Role::Test, bytes, &mut words)?;
         self.read(words.as_slice())?;
         Ok(())
     }

@@ -1,18 +1,20 @@
 -- Loops over the sets of a family, step by step. Assumes nothing.
-use Rattle.std.proofs.Common.{◌≡◌, ◌≤◌, ℕ, suc, ◌+◌, Bool, true, false, cond, not, ◌&&◌, ◌||◌, nat_lt, eqb, ◌↔◌, Option, Some, None, unwrap_or, List, [], ◌∷◌, ◌++◌, length, take, drop, filter, sym, refl, ap, ◌∙◌, arith}
+use Rattle.std.proofs.Common.{◌≡◌, ◌<◌, ◌≤◌, zero, All, get_or, ◌-◌, le_refl, not-suc-le-zero, ℕ, suc, ◌+◌, Bool, true, false, cond, not, ◌&&◌, ◌||◌, nat_lt, eqb, ◌↔◌, Option, Some, None, unwrap_or, List, [], ◌∷◌, ◌++◌, length, take, drop, filter, sym, refl, ap, ◌∙◌, arith}
 use Rattle.std.specs.List.{list_any, position_or_len}
-use Rattle.std.proofs.lemmas.List.{drop-map, length-map, map-append, take-map}
+use Rattle.std.proofs.lemmas.List.{drop-map, length-map, get_or-map, map-append, take-map}
 use Rattle.std.proofs.lemmas.List.Sums.{prefix_len-le-length}
 use Rattle.std.specs.Cmp.Lexicographic.{pointwise}
 use Rattle.std.specs.Str.{bytes_eq}
 use Rattle.std.proofs.lemmas.Slice.Eq.{bytes_eq-Decides}
 use Rattle.std.proofs.lemmas.List.Recursion.{same_from_clauses}
-use Rattle.std.proofs.lemmas.Bool.{cond-true, cond-false, cond_both, both_ways, ltb-false}
-use Rattle.lts.specs.Sets.{within}
+use Rattle.std.proofs.lemmas.Bool.{cond-true, cond-false, cond_both, both_ways, ltb-true, ltb-false}
+use Rattle.lts.specs.Sets.{within, Above, Ascending}
+use Rattle.std.specs.List.Sorted.{IsNonDecreasingBy}
 use Rattle.traces.specs.Families.{antichain, covered, all_covered, without, placed, offered}
 use Rattle.traces.specs.Offered.{bits_of, free, IsFamily}
 use Rattle.lts.specs.SetTypes.{ActionSet}
-use Rattle.traces.proofs.Antichains.{antichain_none, families_equal, family_of}
+use Rattle.traces.proofs.Antichains.{antichain_none, antichain_ascending, families_equal, family_of}
+use Rattle.lts.proofs.Membership.{subset_le, within_subset}
 use Rattle.traces.proofs.Marks.{same_test}
 
 -- the words of a family as those of the list of its sets
@@ -116,3 +118,43 @@ antichain_empty l e = rw e antichain_none
 -- what the family is seen as, by what it keeps
 pub family_kept : (l : List ActionSet) (v : List ℕ) → bits_of l ≡ v → antichain (bits_of l) ≡ true → length l ≤ 64 → IsFamily v
 family_kept l v e a few = rw (sym e) (family_of (bits_of l) a (omega (arith, length-map l (λ s. s.bits))))
+
+above_at : (x : ℕ) (l : List ActionSet) (j : ℕ) (d : ActionSet) → Above x (bits_of l) → j < length l → x < (get_or l j d).bits
+above_at x [] j d a b = absurd (not-suc-le-zero b)
+above_at x (s ∷ l) zero d a b = a.0
+above_at x (s ∷ l) (suc j) d a b = above_at x l j d a.1 (omega (arith, b))
+
+-- the sets of a family rise
+rises : (l : List ActionSet) → Ascending (bits_of l) → IsNonDecreasingBy (λ s. s.bits) l
+rises [] a i j d le b = absurd (not-suc-le-zero b)
+rises (s ∷ l) a zero zero d le b = le_refl _
+rises (s ∷ l) a zero (suc j) d le b = omega (arith, above_at s.bits l j d a.0 (omega (arith, b)))
+rises (s ∷ l) a (suc i) zero d le b = absurd (not-suc-le-zero le)
+rises (s ∷ l) a (suc i) (suc j) d le b = rises l a.1 i j d (omega (arith, le)) (omega (arith, b))
+
+-- what is above the last set is above all
+pub last_below : (x : ℕ) (l : List ActionSet) → antichain (bits_of l) ≡ true → (z : ActionSet) → ((d : ActionSet) → get_or l (length l - 1) d ≡ z) → z.bits < x
+    → All (λ y. y < x) (bits_of l)
+last_below x l a z h b k d few =
+    let long : length (bits_of l) ≡ length l = length-map l (λ s. s.bits) in
+    let here : get_or (bits_of l) k d ≡ (get_or l k z).bits = get_or-map (λ s. s.bits) l k z d (omega arith) in
+    let up = rises l (antichain_ascending (bits_of l) a) k (length l - 1) z (omega arith) (omega arith) in
+    let top : (get_or l (length l - 1) z).bits ≡ z.bits = ap {A = ActionSet} (λ s. s.bits) (h z) in
+    omega (arith, up, top, here, b)
+
+-- no set contains x where all are below it, and its place is the end
+placed_last : (x : ℕ) (l : List ℕ) → All (λ y. y < x) l → placed x (without x l) ≡ l ++ x ∷ []
+unfolding placed without
+placed_last x [] b = refl
+placed_last x (y ∷ l) b = pick (within x y) refl (nat_lt x y) refl (placed_last x l (λ k d h. b (suc k) d (omega (arith, h))))
+  where
+    pick : (w : Bool) → within x y ≡ w → (c : Bool) → nat_lt x y ≡ c → placed x (without x l) ≡ l ++ x ∷ [] → placed x (cond w (without x l) (y ∷ without x l)) ≡ y ∷ (l ++ x ∷ [])
+    pick true e c f r = absurd (let le = subset_le x y (within_subset x y e) in omega (arith, b 0 y (omega arith)))
+    pick false e true f r = absurd (let lt = ltb-true x y f in omega (arith, b 0 y (omega arith)))
+    pick false e false f r = rw f (ap (λ (xs : List ℕ). y ∷ xs) r)
+
+pub offered_last : (s : ActionSet) (l after : List ActionSet) → covered s.bits (bits_of l) ≡ false → All (λ y. y < s.bits) (bits_of l) → after ≡ l ++ s ∷ []
+    → bits_of after ≡ offered s.bits (bits_of l)
+unfolding offered
+offered_last s l after e b q =
+    ap bits_of q ∙ (map-append (λ s. s.bits) l (s ∷ []) ∙ (sym (placed_last s.bits (bits_of l) b) ∙ sym (cond-false (covered s.bits (bits_of l)) (bits_of l) _ e)))

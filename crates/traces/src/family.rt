@@ -3,7 +3,7 @@ ghost use Rattle.std.specs.Prelude.{◌≡◌, ◌==◌, ℕ, ◌+◌, ◌<◌, 
 ghost use Rattle.traces.specs.Families.{covered as covered_by, all_covered, antichain, without, placed, offered};
 ghost use Rattle.lts.specs.Sets.{Ascending};
 ghost use Rattle.traces.specs.Offered.{bits_of, free, Incomparable, IsFamily};
-ghost use Rattle.std.specs.List.{filter, position_or_len};
+ghost use Rattle.std.specs.List.{All, filter, position_or_len};
 ghost use Rattle.std.specs.Cmp.Lexicographic.{pointwise};
 ghost use Rattle.std.specs.Cmp.Rules.{comparing};
 ghost use Rattle.std.proofs.Common.{rules};
@@ -92,6 +92,16 @@ impl Family {
         self.sets.clear();
     }
 
+    // Whether the offer is above all members, so that none contains it and its place is the end.
+    fn ends_below(&self, offer: ActionSet) -> bool
+        ensures { result ≡ true → All (λ y. y < offer.bits) self.now }
+    {
+        match self.sets.last() {
+            Some(last) => last.bits() < offer.bits(),
+            None => true,
+        }
+    }
+
     // Enters an offer: nothing changes if it contains a member, else the members that contain it leave. A family of 64 members takes none.
     pub fn insert(&mut self, offer: ActionSet) -> Result<(), Full>
         ensures room { is_ok result ≡ nat_lt (length self.old) 64 }
@@ -103,9 +113,13 @@ impl Family {
             return Err(Full);
         }
         if !is_covered(offer, self.members()) {
-            leave_out(&mut self.sets, offer);
-            let place = place_of(offer, self.sets.as_slice());
-            let _ = self.sets.insert(place, offer);
+            if self.ends_below(offer) {
+                self.sets.push_reserved(offer);
+            } else {
+                leave_out(&mut self.sets, offer);
+                let place = place_of(offer, self.sets.as_slice());
+                let _ = self.sets.insert(place, offer);
+            }
         }
         Ok(())
     }

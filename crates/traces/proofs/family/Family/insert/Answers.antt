@@ -1,13 +1,24 @@
-use Rattle.std.proofs.Common.{◌≡◌, ◌<◌, false, nat_lt, vec_items, vec_len, vec_capacity, sym, refl, ap, ◌∙◌, arith}
+use Rattle.std.proofs.Common.{◌≡◌, ◌<◌, All, List, ℕ, subst, false, nat_lt, vec_items, vec_len, vec_capacity, sym, refl, ap, ◌∙◌, arith}
 use Rattle.std.proofs.lemmas.Bool.{cond-true}
 use Rattle.std.specs.List.{position_or_len}
 use Rattle.traces.specs.Families.{antichain, covered, offered}
 use Rattle.traces.specs.Offered.{bits_of}
 use Rattle.traces.proofs.Antichains.{offered_antichain}
-use Rattle.traces.proofs.FamilySteps.{offered_known, offered_new, family_kept}
+use Rattle.traces.proofs.FamilySteps.{offered_known, offered_new, offered_last, family_kept}
+use Rattle.traces.proofs.family.Family.insert.Goals.{After-insert, After-push_reserved}
 use Rattle.traces.proofs.family.Family.insert.Goals as goal
 
-entered : (c : goal.After-insert) → bits_of (vec_items c.insert.new.self) ≡ offered c.args.offer.bits (bits_of (vec_items c.self.inside.sets))
+-- at the end, where it is above all members
+pushed : (c : After-push_reserved) → bits_of (vec_items c.push_reserved.new.self) ≡ offered c.args.offer.bits (bits_of (vec_items c.self.inside.sets))
+pushed c =
+    let x = c.args.offer.bits in
+    let l = vec_items c.self.inside.sets in
+    let new : covered x (bits_of l) ≡ false = sym (c.if-not-is_covered.ensures ∙ ap (covered x) (c.members.ensures.value ∙ sym c.self.view_is)) in
+    let below = subst (λ (k : List ℕ). All (λ y. y < x) k) (sym c.self.view_is) (c.ends_below.ensures c.if-ends_below.true) in
+    offered_last c.args.offer l _ new below c.push_reserved.ensures.items
+
+-- in its place, where those that contain it are taken out
+entered : (c : After-insert) → bits_of (vec_items c.insert.new.self) ≡ offered c.args.offer.bits (bits_of (vec_items c.self.inside.sets))
 entered c =
     let x = c.args.offer.bits in
     let l = vec_items c.self.inside.sets in
@@ -19,6 +30,15 @@ entered c =
 pub invariant_of-self : goal.invariant_of-self
 invariant_of-self c =
     let l = vec_items c.self.inside.sets in
+    record {
+      room = omega arith;
+      few = omega arith;
+      apart = ap antichain (pushed c) ∙ offered_antichain c.args.offer.bits (bits_of l) c.self.invariant.apart;
+    }
+
+pub invariant_of-self-else-ends_below : goal.invariant_of-self-else-ends_below
+invariant_of-self-else-ends_below c =
+    let l = vec_items c.self.inside.sets in
     let free : vec_len c.leave_out.new.sets < vec_capacity c.leave_out.new.sets = omega arith in
     record {
       room = omega arith;
@@ -26,8 +46,11 @@ invariant_of-self c =
       apart = ap antichain (entered c) ∙ offered_antichain c.args.offer.bits (bits_of l) c.self.invariant.apart;
     }
 
-pub returns-then-not-is_covered-clause-after : goal.returns-then-not-is_covered-clause-after
-returns-then-not-is_covered-clause-after c = entered c ∙ ap (offered c.args.offer.bits) c.self.view_is
+pub returns-then-ends_below-clause-after : goal.returns-then-ends_below-clause-after
+returns-then-ends_below-clause-after c = pushed c ∙ ap (offered c.args.offer.bits) c.self.view_is
+
+pub returns-else-ends_below-clause-after : goal.returns-else-ends_below-clause-after
+returns-else-ends_below-clause-after c = entered c ∙ ap (offered c.args.offer.bits) c.self.view_is
 
 pub returns-else-not-is_covered-clause-after : goal.returns-else-not-is_covered-clause-after
 returns-else-not-is_covered-clause-after c =
@@ -39,7 +62,12 @@ pub returns-then-len-ge64-clause-family : goal.returns-then-len-ge64-clause-fami
 returns-then-len-ge64-clause-family c =
     family_kept (vec_items c.self.inside.sets) _ c.self.view_is c.self.invariant.apart (omega (arith, c.self.invariant.few, c.self.inside.sets.ok.0))
 
-pub returns-then-not-is_covered-clause-family : goal.returns-then-not-is_covered-clause-family
-returns-then-not-is_covered-clause-family c =
+pub returns-then-ends_below-clause-family : goal.returns-then-ends_below-clause-family
+returns-then-ends_below-clause-family c =
     let kept = invariant_of-self c in
+    family_kept (vec_items c.push_reserved.new.self) _ refl kept.apart (omega (arith, kept.few, c.push_reserved.new.self.ok.0))
+
+pub returns-else-ends_below-clause-family : goal.returns-else-ends_below-clause-family
+returns-else-ends_below-clause-family c =
+    let kept = invariant_of-self-else-ends_below c in
     family_kept (vec_items c.insert.new.self) _ refl kept.apart (omega (arith, kept.few, c.insert.new.self.ok.0))
