@@ -1,5 +1,5 @@
 -- Words laid over a buffer, one after another. Assumes nothing.
-use Rattle.std.proofs.Common.{◌≡◌, ℕ, ◌+◌, ◌<◌, ◌≤◌, List, [], ◌∷◌, ◌++◌, length, get_or, take, drop, set, Ok, Err, sym, refl, ap, ◌∙◌, subst, ap₂, append_assoc, add-zero, zero-add, arith, length-append, take-append-drop, length-take, le-leb}
+use Rattle.std.proofs.Common.{◌≡◌, ℕ, ◌+◌, ◌<◌, ◌≤◌, List, [], ◌∷◌, ◌++◌, length, get_or, take, drop, set, Ok, Err, sym, refl, ap, ◌∙◌, ap₂, append_assoc, add-zero, zero-add, arith, length-append, take-append-drop, length-take, le-leb}
 use borrow.Author.Tests.{lt-leb}
 use lib.Seq.{set-append_seam, take-append_seam, drop-append-add}
 use Rattle.std.proofs.lemmas.List.{drop_more, drop-drop}

@@ -4,10 +4,11 @@ ghost use Rattle.lts.specs.Sets.{In, Subset, Exactly, has, union as union_of, in
 
 use crate::members::Members;
 use crate::word::Word;
+use std::fmt;
 
 // A set of numbers below the width of a word; bit k stands for the number k. Clauses name its bits. A model that shows the number alone would lose that it
 // has room in the word, and the derived equality would want a way back from numbers to words.
-#[derive(Clone, Copy, PartialEq, Eq, Hash, Debug)]
+#[derive(Clone, Copy, PartialEq, Eq, Hash)]
 pub struct Set<W> {
     bits: W,
 }
@@ -17,6 +18,20 @@ pub type StateSet = Set<u64>;
 
 // A set of actions 0 to 31.
 pub type ActionSet = Set<u32>;
+
+// Under the name that its width has: the generic name would not tell states from actions.
+impl<W: Word> fmt::Debug for Set<W> {
+    fn fmt<F: fmt::Write>(&self, f: &mut fmt::Formatter<F>) -> fmt::Result {
+        let name = if W::WIDTH == 64 {
+            "StateSet"
+        } else {
+            "ActionSet"
+        };
+        f.debug_struct(name)
+            .field("bits", &self.bits.widened())
+            .finish()
+    }
+}
 
 impl<W: Word> Set<W> {
     pub fn empty() -> Set<W>

@@ -1,6 +1,7 @@
 // Sets of states and of actions, the two instances of one generic set: each has its test.
 use lts::members::Members;
 use lts::sets::{ActionSet, StateSet};
+use std::alloc::AllocError;
 use std::process::Abort;
 
 fn check_members(rt: &impl Abort, members: Members, expected: &[usize]) {
@@ -60,4 +61,14 @@ fn two_sets(rt: HostRuntime) {
         StateSet::from_bits(0b101).complement().bits(),
         0xFFFF_FFFF_FFFF_FFFA
     );
+}
+
+// Each kind of set shows itself under its own name, not under that of the generic one.
+#[test]
+fn shown_by_kind(rt: HostRuntime) -> Result<(), AllocError> {
+    let states = StateSet::from_bits(5);
+    let actions = ActionSet::from_bits(6);
+    let text = format!(in rt.alloc(); "{states:?} {actions:?}")?;
+    assert_eq!(rt; text.as_str(), "StateSet { bits: 5 } ActionSet { bits: 6 }");
+    Ok(())
 }

@@ -1,9 +1,8 @@
 -- What is worked out from what a trace shows of two systems is how it splits them. Assumes nothing.
-use Rattle.std.proofs.Common.{◌≡◌, ℕ, Bool, true, false, eqb, ◌↔◌, List, Some, None, Option, Bor, refl, sym, subst, eqb→eq, T_not}
+use Rattle.std.proofs.Common.{◌≡◌, ℕ, true, false, eqb, ◌↔◌, List, Some, None, Option, refl, sym, subst, eqb→eq, T_not}
 use Rattle.lts.specs.System.{System}
 use Rattle.lts.specs.Traces.{CanDo, Convergent}
 use Rattle.traces.specs.Macrostates.{macrostate}
-use Rattle.lts.specs.SetTypes.{ActionSet}
 use Rattle.traces.specs.Families.{minimal}
 use Rattle.traces.specs.Offered.{bits_of}
 use Rattle.lts.proofs.Membership.{some_member, not_empty}
@@ -18,7 +17,7 @@ use Rattle.testing.specs.declared.ground.Ground.TheVariants.{Reach, Settle, Offe
 use Rattle.testing.specs.declared.ground.Shown.TheVariants.{Unable, Divergent, Offers}
 use Rattle.testing.specs.declared.ground.Split.{Split}
 use Rattle.testing.specs.Splits.{BothConvergent, Splits}
-use Rattle.testing.specs.Judging.{split_on, split_rule, told, shown_as, ToldAs, Judges, ShownAs, RuleJudges, MacrostateShows}
+use Rattle.testing.specs.Judging.{split_on, shown_as, ToldAs, Judges, ShownAs, RuleJudges, MacrostateShows}
 use Rattle.testing.proofs.OneGround.{one_ground}
 use Rattle.testing.proofs.OfferRule.{rule_splits, some≢none}
 

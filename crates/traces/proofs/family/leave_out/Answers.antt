@@ -1,9 +1,8 @@
-use Rattle.std.proofs.Common.{◌≡◌, false, filter, vec_items, sym, ap, ◌∙◌, rules}
+use Rattle.std.proofs.Common.{vec_items, sym, ◌∙◌, rules}
 use borrow.Author.Tests.{tests}
 use Rattle.std.proofs.lemmas.Fn.{filter_same}
 use Rattle.std.proofs.lemmas.Iterator.{YieldsList-from_slice}
 use Rattle.std.proofs.lemmas.Iterator.Search.{any_from_yields_List}
-use Rattle.std.specs.List.{list_any}
 use Rattle.lts.specs.Sets.{within}
 use Rattle.traces.specs.Offered.{free}
 use Rattle.traces.proofs.FamilySteps.{none_contains}
