@@ -30,7 +30,7 @@ fn put_words(chunks: &[[u8; 4]], words: &mut ArrayVec<u32, LOOKED_AT>)
     }
 }
 
-// Puts the words of a file into a buffer, unless bytes are left over: then the first fault is told. The buffer is lent, as handing it back would copy it.
+// Puts the words of a file into a buffer; where bytes are left over, the first fault is told. The buffer is lent, as handing it back would copy it.
 fn file_words(
     role: Role,
     bytes: &[u8],

@@ -14,7 +14,7 @@ use lts::sets::StateSet;
 pub(crate) const MOST_WORDS: usize = 322;
 
 // The words go into the caller's buffer one after another. The place beside each loop stays: gathering them first in a buffer of its own, to copy them from
-// there, takes two to nine times as long.
+// there, takes three to thirty times as long.
 fn write_lines(lines: &[Line], out: &mut [u32], at: usize)
     requires { at + length lines.now ≤ length out.old }
     ensures { out.new ≡ laid at (map line_word lines.now) out.old }
@@ -32,7 +32,8 @@ fn write_passing(passing: StateSet, out: &mut [u32], at: usize)
 {
     let mut place = at;
     for state in passing.members() {
-        out[place] = 0x4000_0000 + state as u32;
+        let word = u32::from(Word::Passing(state as u8));
+        out[place] = word;
         place += 1;
     }
 }

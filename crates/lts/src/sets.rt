@@ -19,13 +19,13 @@ pub type StateSet = Set<u64>;
 // A set of actions 0 to 31.
 pub type ActionSet = Set<u32>;
 
-// Under the name that its width has: the generic name would not tell states from actions.
+// Sets of states and of actions show themselves under these names: the generic one would not tell them apart.
 impl<W: Word> fmt::Debug for Set<W> {
     fn fmt<F: fmt::Write>(&self, f: &mut fmt::Formatter<F>) -> fmt::Result {
-        let name = if W::WIDTH == 64 {
-            "StateSet"
-        } else {
-            "ActionSet"
+        let name = match W::WIDTH {
+            64 => "StateSet",
+            32 => "ActionSet",
+            _ => "Set",
         };
         f.debug_struct(name)
             .field("bits", &self.bits.widened())

@@ -82,9 +82,6 @@ antichain_incomparable l a x y h i f = alike x y l a h i (subset_within x y f)
 pub family_of : (l : List ℕ) → antichain l ≡ true → length l ≤ 64 → IsFamily l
 family_of l a few = record { few = few; rising = antichain_ascending l a; apart = antichain_incomparable l a }
 
-pub family_none : (l : List ℕ) → l ≡ [] → IsFamily l
-family_none l e = family_of l (rw e antichain_none) (rw e (omega arith))
-
 -- a set that contains one of the list
 pub covered_member : (x : ℕ) (l : List ℕ) → covered x l ≡ true → (y : ℕ) × Member y l × (within y x ≡ true)
 unfolding covered

@@ -1,27 +1,24 @@
-use Rattle.std.proofs.Common.{◌≡◌, ℕ, ◌^◌, ◌<◌, List, [], ◌∷◌, ◌++◌, map, length, sym, refl, ap, ◌∙◌, append-nil, arith, length-append}
+use Rattle.std.proofs.Common.{◌≡◌, ℕ, ◌^◌, ◌<◌, List, [], ◌∷◌, ◌++◌, map, length, sym, refl, ap, ◌∙◌, arith, length-append}
 use Rattle.std.proofs.lemmas.List.{map-append, length-map}
 use Rattle.lts.specs.Sets.{members}
 use Rattle.lts.specs.declared.members.Members.{Members}
 use Rattle.cards.specs.Contents.{laid}
 use Rattle.cards.specs.Words.{passing_word}
 use Rattle.cards.proofs.Laid.{laid_none, laid_step}
-use Rattle.cards.proofs.Written.{come_more, come_below, come_room}
+use Rattle.cards.proofs.Written.{come_more, come_below, come_room, come_all}
 use Rattle.cards.proofs.writing.write_passing.Goals as goal
 
 pub loop-state-init : goal.loop-state-init
 loop-state-init c = (tt, tt, omega arith, sym (laid_none c.args.at c.args.out.now), refl)
 
 -- the set that is walked over
-walked : (c : goal.In-Some) → c.into_iter-state-iterator.result.rest ≡ c.args.passing.bits
+walked : (c : goal.After-from-word) → c.into_iter-state-iterator.result.rest ≡ c.args.passing.bits
 walked c = ap (λ (m : Members). m.rest) c.into_iter-state-iterator.ensures.into_iter_gives ∙ c.members-state-items.ensures.value
 
-small : (c : goal.In-Some) → c.into_iter-state-iterator.result.rest < 2 ^ 64
+small : (c : goal.After-from-word) → c.into_iter-state-iterator.result.rest < 2 ^ 64
 small c = omega (arith, walked c)
 
-below : (c : goal.In-Some) → c.in-Some.state < 64
-below c = come_below c.into_iter-state-iterator.result.rest c.loop-state.state-iterator.rest c.next.new.self.rest c.in-Some.state c.loop-state.yielded (small c) c.loop-state.invariant.4 c.in-Some.ensures.steps
-
-room : (c : goal.In-Some) → c.loop-state.place < length c.args.out.now
+room : (c : goal.After-from-word) → c.loop-state.place < length c.args.out.now
 room c =
     omega (
       arith,
@@ -31,11 +28,11 @@ room c =
       come_room c.into_iter-state-iterator.result.rest c.loop-state.state-iterator.rest c.next.new.self.rest c.in-Some.state c.loop-state.yielded (small c) c.loop-state.invariant.4 c.in-Some.ensures.steps,
     )
 
-pub overflow_cast-out : goal.overflow_cast-out
-overflow_cast-out c = omega (arith, below c)
-
-pub overflow_add-out : goal.overflow_add-out
-overflow_add-out c = omega (arith, below c)
+pub overflow_cast-state : goal.overflow_cast-state
+overflow_cast-state c =
+    let s = c.into_iter-state-iterator.result.rest in
+    let e = ap (λ (m : Members). m.rest) c.into_iter-state-iterator.ensures.into_iter_gives ∙ c.members-state-items.ensures.value in
+    omega (arith, come_below s c.loop-state.state-iterator.rest c.next.new.self.rest c.in-Some.state c.loop-state.yielded (omega (arith, e)) c.loop-state.invariant.4 c.in-Some.ensures.steps)
 
 pub bounds-out-place : goal.bounds-out-place
 bounds-out-place c = omega (arith, room c, c.loop-state.auto.out)
@@ -53,8 +50,9 @@ loop-state-preserved c =
       tt,
       tt,
       omega (arith, c.loop-state.invariant.2, length-append come (q ∷ [])),
-      laid_step c.args.at c.loop-state.place (map passing_word come) (map passing_word (come ++ (q ∷ []))) c.args.out.now c.loop-state.out (passing_word q) c.loop-state.invariant.3
-          (omega (arith, c.loop-state.invariant.2, length-map come passing_word)) (room c) (map-append passing_word come (q ∷ [])),
+      laid_step c.args.at c.loop-state.place (map passing_word come) (map passing_word (come ++ (q ∷ []))) c.args.out.now c.loop-state.out c.from-word.result c.loop-state.invariant.3
+          (omega (arith, c.loop-state.invariant.2, length-map come passing_word)) (room c)
+          (map-append passing_word come (q ∷ []) ∙ ap (λ (w : ℕ). map passing_word come ++ (w ∷ [])) (sym c.from-word.ensures)),
       come_more c.into_iter-state-iterator.result.rest c.loop-state.state-iterator.rest c.next.new.self.rest q come (small c) c.loop-state.invariant.4 c.in-Some.ensures.steps,
     )
 
@@ -62,6 +60,6 @@ pub returns : goal.returns
 returns c =
     let e : c.into_iter-state-iterator.result.rest ≡ c.args.passing.bits =
     ap (λ (m : Members). m.rest) c.into_iter-state-iterator.ensures.into_iter_gives ∙ c.members-state-items.ensures.value in
-    let all : members c.args.passing.bits ≡ c.loop-state.yielded =
-    ap members (sym e) ∙ c.loop-state.invariant.4 ∙ ap (λ (r : List ℕ). c.loop-state.yielded ++ r) c.in-None.ensures.steps.0 ∙ append-nil c.loop-state.yielded in
-    c.loop-state.invariant.3 ∙ ap (λ (qs : List ℕ). laid c.args.at (map passing_word qs) c.args.out.now) (sym all)
+    let all : c.loop-state.yielded ≡ members c.args.passing.bits =
+    come_all c.into_iter-state-iterator.result.rest c.loop-state.state-iterator.rest c.loop-state.yielded c.loop-state.invariant.4 c.in-None.ensures.steps.0 ∙ ap members e in
+    c.loop-state.invariant.3 ∙ ap (λ (qs : List ℕ). laid c.args.at (map passing_word qs) c.args.out.now) all
